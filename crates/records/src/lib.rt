@@ -1,0 +1,5 @@
+pub mod location;
+pub mod options;
+pub mod record;
+pub mod refusal;
+pub mod tags;
