@@ -1,9 +1,9 @@
 // What a source gives and a rack holds: plain records of events.
 use crate::location::Location;
-use crate::location::NodeOrigin;
-use crate::tags::SfTag;
 use crate::location::LocationPartialEq;
+use crate::location::NodeOrigin;
 use crate::location::NodeOriginPartialEq;
+use crate::tags::SfTag;
 use crate::tags::SfTagPartialEq;
 
 /// How a scalar was written.

@@ -2,8 +2,8 @@
 ghost use mathlib.Core.Path.{_≡_};
 ghost use Rattle.records.specs.Refusals.{numberOf, layerOf};
 use crate::location::Location;
-use crate::record::Place;
 use crate::location::LocationPartialEq;
+use crate::record::Place;
 use crate::record::PlacePartialEq;
 
 /// The question that was answered with no, one case for each number.
@@ -24,9 +24,7 @@ pub enum Reason {
     MergeKeyNotAllowed,
     EntriesFull,
     /// With the key's text, where the key is one scalar that may be read as text.
-    DuplicateMappingKey {
-        key: Option<Place>,
-    },
+    DuplicateMappingKey { key: Option<Place> },
     NoHeldNode,
     NoOutermostNode,
 }

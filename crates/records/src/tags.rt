@@ -1,10 +1,10 @@
 // Tags, as far as the reader tells them apart.
 ghost use mathlib.Core.Path.{_≡_};
-ghost use denote.Ref.{now};
+ghost use Rattle.std.specs.Orderings.{Decides};
 ghost use Rattle.records.specs.Tags.{core, forced, stringy};
 
 /// A resolved tag. `None`: no tag. `NonSpecific`: the tag `!`. `Other`: any tag that is not listed.
-#[derive(Clone, Copy, PartialEq, Eq)]
+#[derive(Clone, Copy)]
 pub enum SfTag {
     None,
     Int,
@@ -68,3 +68,13 @@ impl SfTag {
         }
     }
 }
+
+pub impl PartialEq<SfTag> for SfTag as SfTagPartialEq {
+    ghost equals = { λ a b r. Decides r (a ≡ b) };
+
+    fn eq(&self, other: &SfTag) -> bool {
+        *self as u8 == *other as u8
+    }
+}
+
+pub impl Eq for SfTag as SfTagEq {}
