@@ -1,2 +1,4 @@
 pub mod Tags
 pub mod Refusals
+pub mod Places
+pub mod Blank
