@@ -1,0 +1,4 @@
+pub mod Meaning
+pub mod Fronts
+pub mod Tape
+pub mod View

@@ -1,0 +1,4 @@
+pub mod ev;
+pub mod resolving;
+pub mod source;
+pub mod tape;
