@@ -61,15 +61,3 @@ peek-front false true ks c (r ∷ rs) x y p q =
 pub atFront-false : (rs : List Record) → atFront false rs ≡ rs
 atFront-false [] = refl
 atFront-false (r ∷ rs) = refl
-
-pub shown-location : (b : Bool) (r : Record) → shown b r .location ≡ r .location
-shown-location false r = refl
-shown-location true r = null-location (r .event)
-  where
-    null-location : (e : Event) → nullIf r e .location ≡ r .location
-    null-location (Scalar a t w s v) = refl
-    null-location (SeqStart a t w) = refl
-    null-location SeqEnd = refl
-    null-location (MapStart a t w) = refl
-    null-location MapEnd = refl
-    null-location (RecursiveAlias a) = refl

@@ -4,13 +4,10 @@ use mathlib.Core.Logic.{_⊎_, inl, inr, ⊎-elim}
 use mathlib.Core.Bool.{Bool, true, false, cond, not, _||_}
 use mathlib.Core.List.{List, [], _∷_, _++_}
 use Prim.Native.Nat.{ℕ, _+_, _-_, _<_, _≤_}
-use lib.Dec.{eqb}
 use lib.ListN.{length, drop, getD}
 use native.Mathlib.Omega.{arith}
-use Rattle.std.proofs.shelf.Lists.{at-drop-more, at-drop-all, drop-more, getD-past}
+use Rattle.std.proofs.shelf.Lists.{at-drop-more, at-drop-all, drop-more}
 use Rattle.std.proofs.shelf.Tests.{cases-lt}
-use Rattle.std.proofs.shelf.Ways.{tells}
-use Rattle.std.specs.Options.{isSome}
 use Rattle.std.specs.shelf.Lists.{All}
 use Rattle.std.specs.declared.option.Option.{Option}
 use Rattle.std.specs.declared.option.Option.the-variants.{Some, None}
@@ -25,8 +22,8 @@ use Rattle.records.specs.Blank.{unknown, blank}
 use Rattle.events.specs.declared.tape.TapeReader.{TapeReader}
 use Rattle.events.specs.Meaning.{Meaning, Close, Plain, Fault, front, peeked, deferred, settled, taken, tail, stands, ownAt}
 use Rattle.events.specs.Fronts.{shown, atFront}
-use Rattle.events.specs.Tape.{faultAt, sound, ends, lastOf, tapeMeaning, tapeFrom, FirstFault, Fresh}
-use Rattle.events.proofs.Meanings.{same-meaning, peek-front, atFront-false, shown-location}
+use Rattle.events.specs.Tape.{faultAt, sound, ends, tapeMeaning, onward, tapeFrom, FirstFault, Fresh}
+use Rattle.events.proofs.Meanings.{same-meaning, peek-front, atFront-false}
 
 abbrev seen : ℕ → ℕ → Bool → List ℕ → List Record → Result (Option Record) Refusal
 seen n i b ks rs = front true ks (ends n i rs) (atFront b (sound n rs))
@@ -49,12 +46,12 @@ module _ (s : TapeReader) where
 
 -- what is left once the first is taken
 module _ (n i : ℕ) (b : Bool) (x : Record) (ys : List Record) (r : Record) (ts : List Record) where
-  advance : atFront b (sound n (x ∷ ys)) ≡ r ∷ ts → (sound n ys ≡ ts) × (ends n i (x ∷ ys) ≡ ends n (i + 1) ys) × (x .location ≡ r .location)
+  advance : atFront b (sound n (x ∷ ys)) ≡ r ∷ ts → (sound n ys ≡ ts) × (ends n i (x ∷ ys) ≡ ends n (i + 1) ys)
   advance = go (placed n (x .event))
     where
-      go : (f : Bool) → atFront b (cond f (x ∷ sound n ys) []) ≡ r ∷ ts → (sound n ys ≡ ts) × (cond f (ends n (i + 1) ys) (Fault (faultAt i)) ≡ ends n (i + 1) ys) × (x .location ≡ r .location)
+      go : (f : Bool) → atFront b (cond f (x ∷ sound n ys) []) ≡ r ∷ ts → (sound n ys ≡ ts) × (cond f (ends n (i + 1) ys) (Fault (faultAt i)) ≡ ends n (i + 1) ys)
       go false e = absurd (let z : _≡_ {A = ℕ} 0 1 = cc in omega arith)
-      go true e = let p : shown b x ≡ r = cc in (cc, refl, sym (shown-location b x) ∙ ap (λ y. y .location) p)
+      go true e = (cc, refl)
 
 has-more : (s : TapeReader) (r : Record) (ts : List Record) → tapeMeaning s .events ≡ r ∷ ts → s .at < length (s .tape .now)
 has-more s r ts e =
@@ -64,21 +61,7 @@ has-more s r ts e =
     let z : _≡_ {A = ℕ} 0 1 = cc in omega arith))
     (cases-lt (s .at) (length (s .tape .now)))
 
-lastOf-more : (n : ℕ) (rs : List Record) (i : ℕ) → lastOf n rs (i + 1) ≡ getD rs i blank .location
-lastOf-more n rs i = let e : i + 1 - 1 ≡ i = omega arith in let f : eqb (i + 1) 0 ≡ false = grind (arith, tells) in rw (f, e)
-
--- the meaning one record on
-abbrev pub onward : TapeReader → Meaning
-onward s = record {
-  events = atFront false (sound (length (s .text .now)) (drop (s .at + 1) (s .tape .now)));
-  close = ends (length (s .text .now)) (s .at + 1) (drop (s .at + 1) (s .tape .now));
-  last = lastOf (length (s .text .now)) (s .tape .now) (s .at + 1);
-  past = Direct;
-  deferring = s .deferring;
-  anchors = s .anchors .now;
-}
-
-takes : (s : TapeReader) (r : Record) (m : Meaning) → tapeMeaning s ≡ settled (Ok (Some r)) m → onward s ≡ taken (Ok (Some r)) m
+takes : (s : TapeReader) (r : Record) (m : Meaning) → tapeMeaning s ≡ settled (Ok (Some r)) m → onward (r .location) s ≡ taken (Ok (Some r)) m
 takes s r m e =
     let n = length (s .text .now) in
     let ev : tapeMeaning s .events ≡ r ∷ tail (m .events) = ap (λ x. x .events) e in
@@ -87,56 +70,18 @@ takes s r m e =
     let ys = drop (s .at + 1) (s .tape .now) in
     let front : atFront (s .resolved) (sound n (x ∷ ys)) ≡ r ∷ tail (m .events) = rw cons at ev in
     let a = advance n (s .at) (s .resolved) x ys r (tail (m .events)) front in
-    same-meaning (onward s) (taken (Ok (Some r)) m)
+    same-meaning (onward (r .location) s) (taken (Ok (Some r)) m)
     (atFront-false (sound n ys) ∙ a .0)
     (sym (a .1) ∙ ap (ends n (s .at)) (sym cons) ∙ ap (λ x. x .close) e)
-    (lastOf-more n (s .tape .now) (s .at) ∙ a .2)
+    refl
     (ap (λ x. x .past) e) (ap (λ x. x .deferring) e) (ap (λ x. x .anchors) e)
 
-pub takes-got : (s : TapeReader) (got : Option Record) (m : Meaning) → isSome got ≡ true → tapeMeaning s ≡ settled (Ok got) m → (s .at < length (s .tape .now)) × (onward s ≡ taken (Ok got) m)
-takes-got s None m h e = absurd (let z : _≡_ {A = ℕ} 0 1 = cc in omega arith)
-takes-got s (Some r) m h e = (has-more s r (tail (m .events)) (ap (λ x. x .events) e), takes s r m e)
+pub takes-some : (s : TapeReader) (r : Record) (m : Meaning) → tapeMeaning s ≡ settled (Ok (Some r)) m → (s .at < length (s .tape .now)) × (onward (r .location) s ≡ taken (Ok (Some r)) m)
+takes-some s r m e = (has-more s r (tail (m .events)) (ap (λ x. x .events) e), takes s r m e)
 
 pub peeks : (s : TapeReader) (x y : Record) → Ok (Some x) ≡ peeked (deferred true (tapeMeaning s)) → Ok y ≡ stands (s .deferring) (s .anchors .now) x →
     atFront (s .resolved || not (s .deferring)) (sound (length (s .text .now)) (drop (s .at) (s .tape .now))) ≡ y ∷ tail (tapeMeaning s .events)
 peeks s x y p q = peek-front (s .deferring) (s .resolved) (s .anchors .now) (ends (length (s .text .now)) (s .at) (drop (s .at) (s .tape .now))) (sound (length (s .text .now)) (drop (s .at) (s .tape .now))) x y p q
-
--- the last location, before the first record is taken and after
-first-sound : (n : ℕ) (x : Record) (rs : List Record) → ownAt unknown (sound n (x ∷ rs)) ≡ cond (placed n (x .event)) (x .location) unknown
-first-sound n x rs = elim (placed n (x .event)) as (λ f. ownAt unknown (cond f (x ∷ sound n rs) []) ≡ cond f (x .location) unknown) [ true ↦ refl | false ↦ refl ]
-
-last-first : (n : ℕ) (rs : List Record) → 0 < length rs → lastOf n rs 0 ≡ cond (placed n (getD rs 0 blank .event)) (getD rs 0 blank .location) unknown
-last-first n [] h = absurd (omega arith)
-last-first n (x ∷ rs) h = first-sound n x rs
-
-last-later : (n : ℕ) (rs : List Record) (i : ℕ) → 0 < i → lastOf n rs i ≡ getD rs (i - 1) blank .location
-last-later n rs i h = let f : eqb i 0 ≡ false = grind (arith, tells) in rw f
-
-pub last-none : (n : ℕ) (rs : List Record) (i : ℕ) → length rs ≤ i - 1 → lastOf n rs i ≡ unknown
-last-none n rs i h = ⊎-elim (λ (p : 0 < i). last-later n rs i p ∙ ap (λ r. r .location) (getD-past rs (i - 1) blank h)) (λ (p : i ≤ 0). none-at-all rs i h p) (cases-lt 0 i)
-  where
-    none-at-all : (rs : List Record) (i : ℕ) → length rs ≤ i - 1 → i ≤ 0 → lastOf n rs i ≡ unknown
-    none-at-all [] i h p = let z : i ≡ 0 = omega arith in rw z
-    none-at-all (x ∷ xs) i h p = absurd (omega arith)
-
--- at the place of the last record that was taken, or of the first
-module _ (n : ℕ) (rs : List Record) (i j : ℕ) (at : j ≡ i - 1) (within : j < length rs) where
-  pub last-faulty : i ≡ 0 → false ≡ placed n (getD rs j blank .event) → unknown ≡ lastOf n rs i
-  last-faulty z f =
-      let y : j ≡ 0 = omega arith in
-      let e = last-first n rs (omega arith) in
-      let g : false ≡ placed n (getD rs 0 blank .event) = rw y at f in
-      rw z (sym (e ∙ ap (λ b. cond b (getD rs 0 blank .location) unknown) (sym g)))
-
-  pub last-sound : i ≡ 0 → true ≡ placed n (getD rs j blank .event) → getD rs j blank .location ≡ lastOf n rs i
-  last-sound z f =
-      let y : j ≡ 0 = omega arith in
-      let e = last-first n rs (omega arith) in
-      let g : true ≡ placed n (getD rs 0 blank .event) = rw y at f in
-      rw (z, y) (sym (e ∙ ap (λ b. cond b (getD rs 0 blank .location) unknown) (sym g)))
-
-  pub last-taken : 0 < i → getD rs j blank .location ≡ lastOf n rs i
-  last-taken p = rw at (sym (last-later n rs i p))
 
 -- a tape's events and close, by its first faulty record
 module _ (n : ℕ) where
@@ -172,9 +117,19 @@ module _ (n : ℕ) where
       first-of (inr h) = let e : 0 + length (sound n tape) ≡ length (sound n tape) = omega arith in inr (h .0, h .1, h .2, h .3 ∙ ap (λ k. Fault (faultAt k)) e, h .4, h .5)
 
 -- a reader that was just made
-pub fresh : (s : TapeReader) → length (s .tape .now) ≤ 65536 → length (s .text .now) ≤ 65536 → s .at ≡ 0 → s .resolved ≡ false → s .deferring ≡ false → Fresh (s .text .now) (s .tape .now) (s .anchors .now) s
-fresh s short small at res def =
+pub fresh : (s : TapeReader) → length (s .tape .now) ≤ 65536 → length (s .text .now) ≤ 65536 → s .at ≡ 0 → s .resolved ≡ false → s .deferring ≡ false
+    → s .last ≡ ownAt unknown (sound (length (s .text .now)) (s .tape .now)) → Fresh (s .text .now) (s .tape .now) (s .anchors .now) s
+fresh s short small at res def last =
     let n = length (s .text .now) in
     let tape = s .tape .now in
-    let e : tapeMeaning s ≡ tapeFrom n tape (s .anchors .now) = rw (at, res, def) (same-meaning _ _ (atFront-false (sound n tape)) refl refl refl refl refl) in
+    let e : tapeMeaning s ≡ tapeFrom n tape (s .anchors .now) = rw (at, res, def) (same-meaning _ _ (atFront-false (sound n tape)) refl last refl refl refl) in
     record { short = short; small = small; means = e; closes = subst (λ (m : Meaning). FirstFault n tape (m .events) (m .close)) (sym e) (first-fault n tape) }
+
+-- the location of the first event, if there is one
+pub first-is : (n : ℕ) (rs : List Record) → ownAt unknown (sound n rs) ≡ cond (placed n (getD rs 0 blank .event)) (getD rs 0 blank .location) unknown
+first-is n [] = sym (same (placed n (blank .event)))
+  where
+    same : (b : Bool) → cond b unknown unknown ≡ unknown
+    same true = refl
+    same false = refl
+first-is n (x ∷ rs) = elim (placed n (x .event)) as (λ f. ownAt unknown (cond f (x ∷ sound n rs) []) ≡ cond f (x .location) unknown) [ true ↦ refl | false ↦ refl ]

@@ -1,11 +1,10 @@
 -- What a tape reader means.
 use mathlib.Core.Path.{_≡_}
 use mathlib.Core.Logic.{_⊎_}
-use mathlib.Core.Bool.{Bool, true, false, cond}
+use mathlib.Core.Bool.{Bool, true, false, cond, not, _||_}
 use mathlib.Core.List.{List, [], _∷_, _++_}
-use Prim.Native.Nat.{ℕ, _+_, _-_, _<_, _≤_}
-use lib.Dec.{eqb}
-use lib.ListN.{length, drop, getD}
+use Prim.Native.Nat.{ℕ, _+_, _<_, _≤_}
+use lib.ListN.{length, drop}
 use Rattle.std.specs.shelf.Lists.{All}
 use Rattle.std.specs.declared.result.Result.{Result}
 use Rattle.std.specs.declared.result.Result.the-variants.{Ok, Err}
@@ -16,7 +15,7 @@ use Rattle.records.specs.declared.refusal.Refusal.{Refusal}
 use Rattle.records.specs.declared.refusal.Reason.{Reason}
 use Rattle.records.specs.declared.refusal.Reason.the-variants.{TapeTooLong, TextTooLong, PlaceOutsideText}
 use Rattle.records.specs.Places.{placed}
-use Rattle.records.specs.Blank.{unknown, blank}
+use Rattle.records.specs.Blank.{unknown}
 use Rattle.events.specs.declared.tape.TapeReader.{TapeReader}
 use Rattle.events.specs.Meaning.{Meaning, Close, Plain, Fault, ownAt}
 use Rattle.events.specs.Fronts.{atFront}
@@ -35,16 +34,34 @@ abbrev pub ends : ℕ → ℕ → List Record → Close
 ends n i [] = Plain
 ends n i (r ∷ rs) = cond (placed n (r .event)) (ends n (i + 1) rs) (Fault (faultAt i))
 
--- the location of the record before the i-th; at the start, of the first event, if there is one
-abbrev pub lastOf : ℕ → List Record → ℕ → Location
-lastOf n rs i = cond (eqb i 0) (ownAt unknown (sound n rs)) (getD rs (i - 1) blank .location)
-
 -- a reader that has taken some records, and may have resolved the next
 abbrev pub tapeMeaning : TapeReader → Meaning
 tapeMeaning s = record {
   events = atFront (s .resolved) (sound (length (s .text .now)) (drop (s .at) (s .tape .now)));
   close = ends (length (s .text .now)) (s .at) (drop (s .at) (s .tape .now));
-  last = lastOf (length (s .text .now)) (s .tape .now) (s .at);
+  last = s .last;
+  past = Direct;
+  deferring = s .deferring;
+  anchors = s .anchors .now;
+}
+
+-- the same once its front was looked at, and stays as it was answered
+abbrev pub lookedAt : TapeReader → Meaning
+lookedAt s = record {
+  events = atFront (s .resolved || not (s .deferring)) (sound (length (s .text .now)) (drop (s .at) (s .tape .now)));
+  close = ends (length (s .text .now)) (s .at) (drop (s .at) (s .tape .now));
+  last = s .last;
+  past = Direct;
+  deferring = s .deferring;
+  anchors = s .anchors .now;
+}
+
+-- the same one record on, that stood at l
+abbrev pub onward : Location → TapeReader → Meaning
+onward l s = record {
+  events = atFront false (sound (length (s .text .now)) (drop (s .at + 1) (s .tape .now)));
+  close = ends (length (s .text .now)) (s .at + 1) (drop (s .at + 1) (s .tape .now));
+  last = l;
   past = Direct;
   deferring = s .deferring;
   anchors = s .anchors .now;

@@ -2,3 +2,5 @@ pub mod ev;
 pub mod resolving;
 pub mod source;
 pub mod tape;
+#[cfg(test)]
+mod tests;

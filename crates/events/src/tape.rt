@@ -1,8 +1,11 @@
 // A tape, that is a run of event records, read as a source of events.
 ghost use mathlib.Core.Path.{_≡_};
 ghost use mathlib.Core.Bool.{true};
-ghost use Rattle.events.specs.Meaning.{peeked, deferred};
-ghost use Rattle.events.specs.Tape.{Made, atMaking, tapeMeaning};
+ghost use Prim.Native.Nat.{_<_};
+ghost use lib.ListN.{length};
+ghost use Rattle.records.specs.Blank.{unknown};
+ghost use Rattle.events.specs.Meaning.{peeked, deferred, ownAt};
+ghost use Rattle.events.specs.Tape.{Made, atMaking, sound, tapeMeaning, lookedAt, onward};
 use crate::resolving::reference_of;
 use crate::resolving::resolve_recursive_alias;
 use crate::resolving::shown_as;
@@ -29,6 +32,7 @@ pub struct TapeReader<'a> {
     at: usize,
     resolved: bool,
     deferring: bool,
+    last: Location,
 }
 
 fn at_making(reason: Reason) -> Refusal
@@ -38,6 +42,21 @@ fn at_making(reason: Reason) -> Refusal
         reason,
         location: Location::UNKNOWN,
         offset: 0,
+    }
+}
+
+/// The location of the first event, UNKNOWN where there is none.
+fn first_location(text: &[u8], tape: &[Record]) -> Location
+    ensures { λ r. ⌜ r ≡ ownAt unknown (sound (length (now (text .entry))) (now (tape .entry))) ⌝ }
+{
+    if tape.len() == 0 {
+        return Location::UNKNOWN;
+    }
+    let first = tape[0];
+    if first.event.lies_within(text.len()) {
+        first.location
+    } else {
+        Location::UNKNOWN
     }
 }
 
@@ -63,6 +82,7 @@ impl<'a> TapeReader<'a> {
             at: 0,
             resolved: false,
             deferring: false,
+            last: first_location(text, tape),
         })
     }
 
@@ -83,6 +103,23 @@ impl<'a> TapeReader<'a> {
         }
         Ok(Some(shown_as(record, self.resolved)))
     }
+
+    /// Keeps the front as it was answered.
+    fn settle(&mut self)
+        ensures { λ _. ⌜ tapeMeaning (now (self .exit)) ≡ lookedAt (now (self .entry)) ⌝ }
+    {
+        self.resolved = self.resolved | !self.deferring;
+    }
+
+    /// Goes on past the front, which stands at a location.
+    fn advance(&mut self, location: Location)
+        requires { ⌜ now self .at < length (now (now self .tape)) ⌝ }
+        ensures { λ _. ⌜ tapeMeaning (now (self .exit)) ≡ onward location (now (self .entry)) ⌝ }
+    {
+        self.at += 1;
+        self.resolved = false;
+        self.last = location;
+    }
 }
 
 pub impl<'a> Events for TapeReader<'a> as TapeEvents {
@@ -93,15 +130,14 @@ pub impl<'a> Events for TapeReader<'a> as TapeEvents {
             return Ok(None);
         };
         let record = resolve_recursive_alias(record, self.deferring, self.anchors)?;
-        self.resolved = self.resolved | !self.deferring;
+        self.settle();
         Ok(Some(record))
     }
 
     fn next(&mut self) -> Result<Option<Record>, Refusal> {
         let got = self.peek()?;
-        if got.is_some() {
-            self.at += 1;
-            self.resolved = false;
+        if let Some(record) = got {
+            self.advance(record.location);
         }
         Ok(got)
     }
@@ -132,14 +168,6 @@ pub impl<'a> Events for TapeReader<'a> as TapeEvents {
     }
 
     fn last_location(&self) -> Location {
-        let last = self.at.saturating_sub(1);
-        if last >= self.tape.len() {
-            return Location::UNKNOWN;
-        }
-        let record = self.tape[last];
-        if self.at == 0 && !record.event.lies_within(self.text.len()) {
-            return Location::UNKNOWN;
-        }
-        record.location
+        self.last
     }
 }

@@ -1,7 +1,7 @@
 // Where a node stands in the source that it was written in.
 
 /// Line and column, from 1, and the number of the source. All zero is `UNKNOWN`.
-#[derive(Clone, Copy, PartialEq, Eq)]
+#[derive(Clone, Copy, PartialEq, Eq, Debug)]
 pub struct Location {
     pub line: u32,
     pub column: u32,

@@ -19,7 +19,7 @@ pub enum ScalarStyle {
 }
 
 /// A part of the text: `len` bytes from the byte `start` on.
-#[derive(Clone, Copy, PartialEq, Eq)]
+#[derive(Clone, Copy, PartialEq, Eq, Debug)]
 pub struct Place {
     pub start: u32,
     pub len: u32,

@@ -2,12 +2,14 @@
 ghost use mathlib.Core.Path.{_≡_};
 ghost use Rattle.records.specs.Refusals.{numberOf, layerOf};
 use crate::location::Location;
+use crate::location::LocationDebug;
 use crate::location::LocationPartialEq;
 use crate::record::Place;
+use crate::record::PlaceDebug;
 use crate::record::PlacePartialEq;
 
 /// The question that was answered with no, one case for each number.
-#[derive(Clone, Copy, PartialEq, Eq)]
+#[derive(Clone, Copy, PartialEq, Eq, Debug)]
 pub enum Reason {
     TapeTooLong,
     TextTooLong,
@@ -39,7 +41,7 @@ pub enum Layer {
 }
 
 /// A refusal: the reason, where it arose, and the tape's record for a faulty one, else 0.
-#[derive(Clone, Copy, PartialEq, Eq)]
+#[derive(Clone, Copy, PartialEq, Eq, Debug)]
 pub struct Refusal {
     pub reason: Reason,
     pub location: Location,

@@ -1,15 +1,19 @@
-use mathlib.Core.Path.{sym}
-use native.Mathlib.Omega.{arith}
+use mathlib.Core.Path.{_≡_, ap, _∙_}
+use Rattle.std.specs.declared.option.Option.the-variants.{Some}
+use Rattle.std.specs.declared.result.Result.the-variants.{Ok}
+use Rattle.events.specs.Meaning.{settled}
 use Rattle.events.specs.Tape.{tapeMeaning}
-use Rattle.events.proofs.Tapes.{takes-got}
+use Rattle.events.proofs.Tapes.{takes-some}
 use Rattle.events.proofs.tape.TapeEvents.next.Needs as need
 
-pub add-self : need.add-self
-add-self c =
-    let t = takes-got (c .peek .last .self) (c .in-Continue-got .got) (tapeMeaning (c .args .self .now)) (sym (c .if-is-some .ensures tt)) (c .in-Continue-got .ensures tt .after) in
-    omega (arith, t .0)
+pub advance-requires : need.advance-requires
+advance-requires c κs =
+    let m = tapeMeaning (c .args .self .now) in
+    let e : tapeMeaning (c .peek .last .self) ≡ settled (Ok (Some (c .in-Some .record))) m = rw (c .in-Some .is) at (c .in-Continue-got .ensures tt .after) in
+    takes-some (c .peek .last .self) (c .in-Some .record) m e .0
 
-pub returns-then-is-some : need.returns-then-is-some
-returns-then-is-some c =
-    let t = takes-got (c .peek .last .self) (c .in-Continue-got .got) (tapeMeaning (c .args .self .now)) (sym (c .if-is-some .ensures tt)) (c .in-Continue-got .ensures tt .after) in
-    record { answer = c .in-Continue-got .ensures tt .answer; after = t .1 }
+pub returns-in-Some : need.returns-in-Some
+returns-in-Some c =
+    let m = tapeMeaning (c .args .self .now) in
+    let e : tapeMeaning (c .peek .last .self) ≡ settled (Ok (Some (c .in-Some .record))) m = rw (c .in-Some .is) at (c .in-Continue-got .ensures tt .after) in
+    record { answer = cc (c .in-Continue-got .ensures tt .answer); after = c .advance .ensures ∙ takes-some (c .peek .last .self) (c .in-Some .record) m e .1 }

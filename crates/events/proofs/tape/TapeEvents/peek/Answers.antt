@@ -1,5 +1,5 @@
 use mathlib.Core.Bool.{true}
-use mathlib.Core.Path.{_≡_, refl}
+use mathlib.Core.Path.{_≡_, refl, _∙_}
 use Rattle.std.specs.declared.option.Option.the-variants.{Some}
 use Rattle.std.specs.declared.result.Result.the-variants.{Ok}
 use Rattle.events.specs.Meaning.{peeked, deferred}
@@ -15,4 +15,4 @@ returns c =
     let y = c .in-Continue-record-2 .record in
     let p : Ok (Some x) ≡ peeked (deferred true (tapeMeaning s)) = cc (c .in-Continue-record .ensures tt, c .in-Some .is) in
     let q = c .in-Continue-record-2 .ensures tt in
-    record { answer = peek-answer (tapeMeaning s) x y p q; after = same-meaning _ _ (peeks s x y p q) refl refl refl refl refl }
+    record { answer = peek-answer (tapeMeaning s) x y p q; after = c .settle .ensures ∙ same-meaning _ _ (peeks s x y p q) refl refl refl refl refl }
