@@ -1,0 +1,4 @@
+pub mod Finding
+pub mod Removing
+pub mod PairLaws
+pub mod PairTest

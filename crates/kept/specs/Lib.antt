@@ -1,0 +1,5 @@
+pub mod Equivalence
+pub mod Held
+pub mod Searching
+pub mod Pairing
+pub mod Instances
