@@ -1,9 +1,10 @@
 -- The first element of a list that passes a test.
 use mathlib.Core.Path.{_≡_}
 use mathlib.Core.Bool.{Bool, true, false, cond, _||_}
-use mathlib.Core.List.{List, [], _∷_, _++_}
-use Prim.Native.Nat.{ℕ, suc}
-use lib.ListN.{length}
+use mathlib.Core.List.{List, [], _∷_}
+use Prim.Native.Nat.{ℕ, suc, _<_}
+use lib.ListN.{length, getD, take}
+use Rattle.std.specs.Holes.{removed}
 use Rattle.std.specs.shelf.Lists.{All}
 use Rattle.std.specs.declared.option.Option.{Option}
 use Rattle.std.specs.declared.option.Option.the-variants.{Some, None}
@@ -27,23 +28,21 @@ abbrev pub without : {X : Type 0} → (X → Bool) → List X → List X
 without p [] = []
 without p (x ∷ xs) = cond (p x) xs (x ∷ without p xs)
 
--- the list in three parts: what stands before the first that passes, none of which does, itself, and the rest
+-- `First p xs i`: the element at `i` passes, and none before it does; `without` takes off that one
 pub record First {X : Type 0} (p : X → Bool) (xs : List X) (i : ℕ) : Type 0 where
-  pub before : List X
-  pub here : X
-  pub after : List X
-  pub parts : xs ≡ before ++ here ∷ after
-  pub place : length before ≡ i
-  pub passes : p here ≡ true
-  pub none-before : All (λ x. p x ≡ false) before
+  pub below : i < length xs
+  pub passes : (d : X) → p (getD xs i d) ≡ true
+  pub before : All (λ x. p x ≡ false) (take i xs)
   pub found : anyBy p xs ≡ true
-  pub rest : without p xs ≡ before ++ after
+  pub rest : without p xs ≡ removed xs i
 
+-- `Missing p xs`: none passes, and `without` takes nothing off
 pub record Missing {X : Type 0} (p : X → Bool) (xs : List X) : Type 0 where
-  pub none : All (λ x. p x ≡ false) xs
+  pub fails : All (λ x. p x ≡ false) xs
   pub found : anyBy p xs ≡ false
   pub rest : without p xs ≡ xs
 
+-- what a search answers
 abbrev pub Finds : {X : Type 0} → (X → Bool) → List X → Option ℕ → Type 0
 Finds p xs None = Missing p xs
 Finds p xs (Some i) = First p xs i

@@ -32,8 +32,8 @@ pub fn pair_off<T: Copy, E: Equality<T>>(eq: &E, xs: &[T], ys: &[T], room: &mut 
 fn push_all<T: Copy>(left: &mut Kept<'_, T>, xs: &[T]) -> Result<(), Full>
     ensures room { λ _. ⌜ roomOf (now (left .exit)) ≡ roomOf (now (left .entry)) ⌝ }
     ensures list { λ r. ⌜ Cases r
-        (λ _. (length (heldBy (now (left .entry)) ++ now (xs .entry)) ≤ roomOf (now (left .entry))) × (heldBy (now (left .exit)) ≡ heldBy (now (left .entry)) ++ now (xs .entry)))
-        (λ _. roomOf (now (left .entry)) < length (heldBy (now (left .entry)) ++ now (xs .entry))) ⌝ }
+        (λ _. (length (heldBy (now (left .entry))) + length (now (xs .entry)) ≤ roomOf (now (left .entry))) × (heldBy (now (left .exit)) ≡ heldBy (now (left .entry)) ++ now (xs .entry)))
+        (λ _. roomOf (now (left .entry)) < length (heldBy (now (left .entry))) + length (now (xs .entry))) ⌝ }
 {
     for x in xs {
         left.push(*x)?;

@@ -8,7 +8,7 @@ ghost use denote.Ref.{now};
 ghost use Rattle.std.specs.Holes.{removed};
 ghost use Rattle.std.specs.Results.{Cases};
 ghost use Rattle.kept.specs.Held.{heldBy, roomOf};
-ghost use Rattle.kept.specs.Searching.{firstBy, anyBy, without};
+ghost use Rattle.kept.specs.Searching.{firstBy, anyBy, without, Finds};
 use super::Full;
 use super::Kept;
 use crate::equality::Equality;
@@ -38,7 +38,8 @@ impl<'a, T> Kept<'a, T> {
 
     /// The place of the first element that equals `x`.
     pub fn find<E: Equality<T>>(&self, eq: &E, x: &T) -> Option<usize>
-        ensures { λ r. ⌜ r ≡ firstBy (same (now (eq .entry)) (now (x .entry))) (heldBy (now (self .entry))) ⌝ }
+        ensures place { λ r. ⌜ r ≡ firstBy (same (now (eq .entry)) (now (x .entry))) (heldBy (now (self .entry))) ⌝ }
+        ensures finds { λ r. ⌜ Finds (same (now (eq .entry)) (now (x .entry))) (heldBy (now (self .entry))) r ⌝ }
     {
         let items = &*self.items;
         first_equal(&items[0..self.len], eq, x)
@@ -93,7 +94,8 @@ impl<'a, T: Copy> Kept<'a, T> {
 
 // The place of the first element that equals `x`.
 fn first_equal<T, E: Equality<T>>(items: &[T], eq: &E, x: &T) -> Option<usize>
-    ensures { λ r. ⌜ r ≡ firstBy (same (now (eq .entry)) (now (x .entry))) (now (items .entry)) ⌝ }
+    ensures place { λ r. ⌜ r ≡ firstBy (same (now (eq .entry)) (now (x .entry))) (now (items .entry)) ⌝ }
+    ensures finds { λ r. ⌜ Finds (same (now (eq .entry)) (now (x .entry))) (now (items .entry)) r ⌝ }
 {
     for i in 0..items.len() {
         if eq.equal(x, &items[i]) {

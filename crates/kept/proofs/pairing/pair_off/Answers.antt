@@ -20,14 +20,8 @@ pub returns-in-Ok : need.returns-in-Ok
 returns-in-Ok g c =
     let e = c .in-Ok .ensures tt .list in
     let xs = c .args .xs .now in
-    let n = ap (λ zs. length (zs ++ xs)) (c .new-left .ensures .list) in (
+    let n = ap length (c .new-left .ensures .list) in (
       omega (arith, e .0, n, c .new-left .ensures .room),
       answered (g .E·Equality .same (c .args .eq .now)) (lawful-at (g .E·Equality .same) (g .E·Equality .lawful) (c .args .eq .now))
           xs (c .args .ys .now) _ _ (e .1 ∙ ap (λ zs. zs ++ xs) (c .new-left .ensures .list)) (c .take-all-off .ensures),
     )
-
-pub returns-in-Err : need.returns-in-Err
-returns-in-Err g c =
-    let xs = c .args .xs .now in
-    let n = ap (λ zs. length (zs ++ xs)) (c .new-left .ensures .list) in
-    omega (arith, c .in-Err .ensures tt .list, n, c .new-left .ensures .room)

@@ -13,12 +13,15 @@ more front xs held new i x lt is e f =
     ∙ ap (λ y. front ++ (take i xs ++ y ∷ [])) is
     ∙ sym (ap (λ zs. front ++ zs) (take-more xs i x lt))
 
-full : {X : Type 0} (front xs held : List X) (i room : ℕ) → i < length xs → held ≡ front ++ take i xs → length held ≡ room → room < length (front ++ xs)
+full : {X : Type 0} (front xs held : List X) (i room : ℕ) → i < length xs → held ≡ front ++ take i xs → length held ≡ room → room < length front + length xs
 full front xs held i room lt e f =
-    omega (arith, ap length e, length-append front xs, length-append front (take i xs), length-take i xs)
+    omega (arith, ap length e, length-append front (take i xs), length-take i xs)
 
 whole : {X : Type 0} (front xs held : List X) (i : ℕ) → length xs ≤ i → held ≡ front ++ take i xs → held ≡ front ++ xs
 whole front xs held i le e = e ∙ ap (λ zs. front ++ zs) (take-all i xs le)
+
+enough : {X : Type 0} (front xs items : List X) (n room : ℕ) → take n items ≡ front ++ xs → n ≤ length items → length items ≡ room → length front + length xs ≤ room
+enough front xs items n room e le f = omega (arith, ap length e, length-append front xs, length-take n items)
 
 pub loop-x-holds : need.loop-x-holds
 loop-x-holds g c = (refl, sym (append-nil _))
@@ -42,5 +45,5 @@ returns g c =
     let e = whole _ _ _ _ (c .loop-x-test .left) (c .loop-x .inv .1) in
     record {
       room = c .loop-x .inv .0;
-      list = (omega (arith, ap length e, c .loop-x .inv .0, length-take (c .loop-x .left .len) (c .loop-x .left .items .now)), e);
+      list = (enough _ _ (c .loop-x .left .items .now) (c .loop-x .left .len) _ e (c .loop-x .left .fits) (c .loop-x .inv .0), e);
     }
