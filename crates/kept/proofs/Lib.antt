@@ -1,4 +1,5 @@
 pub mod Finding
 pub mod Removing
 pub mod PairLaws
+pub mod PairMaps
 pub mod PairTest

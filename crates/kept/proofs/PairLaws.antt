@@ -1,15 +1,14 @@
 -- Pairing off, among values where equality is lawful: the relation, the test and the counts agree, and it is an equivalence.
 use mathlib.Core.Path.{_≡_, refl, sym, ap, _∙_}
-use mathlib.Core.Bool.{Bool, true, false, cond, _&&_, _||_}
+use mathlib.Core.Bool.{Bool, true, false, cond, _||_}
 use mathlib.Core.List.{List, [], _∷_}
-use mathlib.Core.Logic.{_↔_}
-use Prim.Native.Nat.{ℕ, _+_, _<_, _≤_}
+use Prim.Native.Nat.{ℕ, _+_, _<_}
 use native.Mathlib.Omega.{arith}
 use Rattle.std.specs.shelf.Lists.{All}
 use Rattle.std.proofs.shelf.Tests.{and-parts, and-from, false≢true}
 use Rattle.kept.specs.Equivalence.{Equivalence, EquivalenceOn}
 use Rattle.kept.specs.Searching.{anyBy, without}
-use Rattle.kept.specs.Pairing.{Pick, Paired, none, paired, one, countBy, Counted, Pairing-is-equivalence, Test-is-relation, Pairing-by-counts}
+use Rattle.kept.specs.Pairing.{Pick, Paired, paired, one, countBy, Pairing-is-equivalence, Test-is-relation, Pairing-by-counts}
 use Rattle.kept.specs.Pairing.Pick.{here, there}
 use Rattle.kept.specs.Pairing.Paired.{no-more, partner}
 

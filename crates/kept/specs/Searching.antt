@@ -9,6 +9,7 @@ use Rattle.std.specs.shelf.Lists.{All}
 use Rattle.std.specs.declared.option.Option.{Option}
 use Rattle.std.specs.declared.option.Option.the-variants.{Some, None}
 
+-- a place of the rest, counted from one element earlier
 abbrev pub later : Option ℕ → Option ℕ
 later None = None
 later (Some n) = Some (suc n)
@@ -47,5 +48,6 @@ abbrev pub Finds : {X : Type 0} → (X → Bool) → List X → Option ℕ → T
 Finds p xs None = Missing p xs
 Finds p xs (Some i) = First p xs i
 
+-- of every element and every list
 abbrev pub Finds-first : {X : Type 0} → (X → X → Bool) → Type 0
 Finds-first {X} same = (x : X) (xs : List X) → Finds (same x) xs (firstBy (same x) xs)

@@ -1,5 +1,4 @@
 // Equalities of plain values.
-ghost use mathlib.Core.Path.{_≡_};
 ghost use Rattle.kept.specs.Instances.{same-number, same-parts, number-lawful, parts-lawful};
 use crate::equality::Equality;
 

@@ -3,7 +3,7 @@ ghost use Prim.Native.Nat.{_≤_};
 ghost use lib.ListN.{length};
 ghost use denote.Ref.{now};
 
-pub mod holding;
+mod holding;
 
 /// A kept list: elements held in the order in which they came, in the first places of a slice that the caller lends.
 /// It finds the first element that equals a given one, and takes it off; how elements are compared is passed to each
@@ -16,5 +16,5 @@ pub struct Kept<'a, T> {
 }
 
 /// Every place of the lent slice is taken.
-#[derive(Clone, Copy, PartialEq, Eq)]
+#[derive(Clone, Copy)]
 pub struct Full;

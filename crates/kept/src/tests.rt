@@ -52,9 +52,14 @@ fn taking_an_absent_one_off_changes_nothing() -> Result<(), Fail> {
     check_eq(kept.find(&ByNumber, &5), Some(0))
 }
 
-// Whether lists of numbers pair off, with as much room as asked.
+// Whether lists of numbers pair off, with room for three.
 fn numbers_pair_off(xs: &[u32], ys: &[u32]) -> Option<bool> {
     pair_off(&ByNumber, xs, ys, &mut [0; 3])
+}
+
+// Whether lists of pairs pair off, with room for two.
+fn pairs_pair_off(xs: &[(u32, u32)], ys: &[(u32, u32)]) -> Option<bool> {
+    pair_off(&ByParts, xs, ys, &mut [(0, 0); 2])
 }
 
 #[test]
@@ -67,21 +72,11 @@ fn numbers_pair_off_in_any_order() -> Result<(), Fail> {
 #[test]
 fn pairs_pair_off_by_both_parts() -> Result<(), Fail> {
     check_eq(
-        pair_off(
-            &ByParts,
-            &[(1, 2), (2, 1)],
-            &[(2, 1), (1, 2)],
-            &mut [(0, 0); 2],
-        ),
+        pairs_pair_off(&[(1, 2), (2, 1)], &[(2, 1), (1, 2)]),
         Some(true),
     )?;
     check_eq(
-        pair_off(
-            &ByParts,
-            &[(1, 2), (2, 1)],
-            &[(2, 2), (1, 1)],
-            &mut [(0, 0); 2],
-        ),
+        pairs_pair_off(&[(1, 2), (2, 1)], &[(2, 2), (1, 1)]),
         Some(false),
     )
 }

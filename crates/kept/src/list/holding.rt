@@ -36,7 +36,7 @@ impl<'a, T> Kept<'a, T> {
         self.len == 0
     }
 
-    /// The place of the first element that equals `x`.
+    /// The place of the first element that equals `x`, or `None` where there is none.
     pub fn find<E: Equality<T>>(&self, eq: &E, x: &T) -> Option<usize>
         ensures place { λ r. ⌜ r ≡ firstBy (same (now (eq .entry)) (now (x .entry))) (heldBy (now (self .entry))) ⌝ }
         ensures finds { λ r. ⌜ Finds (same (now (eq .entry)) (now (x .entry))) (heldBy (now (self .entry))) r ⌝ }
