@@ -2,6 +2,7 @@
 use mathlib.Core.Path.{_≡_, refl, sym, ap, _∙_}
 use mathlib.Core.Bool.{Bool, true, false, cond, _||_}
 use mathlib.Core.List.{List, [], _∷_}
+use mathlib.Core.Logic.{_↔_}
 use Prim.Native.Nat.{ℕ, _+_, _<_}
 use native.Mathlib.Omega.{arith}
 use Rattle.std.specs.shelf.Lists.{All}
@@ -90,6 +91,10 @@ module _ {X : Type 0} (P : X → Type 0) (same : X → X → Bool) (eq : Equival
 
   pub test-from-relation : (xs ys : List X) → All P xs → All P ys → Paired same xs ys → paired same xs ys ≡ true
   test-from-relation xs ys a b d = test-from-counts xs ys a b (counts-from-relation a b d)
+
+  pub answer-is-test : (xs ys : List X) → All P xs → All P ys → (answer : Bool) → ((answer ≡ true) ↔ Paired same xs ys) → answer ≡ paired same xs ys
+  answer-is-test xs ys a b answer h =
+      bool-same answer (paired same xs ys) (λ t. test-from-relation xs ys a b (h .0 t)) (λ t. h .1 (relation-from-test same xs ys t))
 
   pub paired-reflexive : (xs : List X) → All P xs → Paired same xs xs
   paired-reflexive xs a = relation-from-counts xs xs a a (λ z pz. refl)

@@ -1,3 +1,4 @@
+-- What the contracts of kept lists cite.
 pub mod Equivalence
 pub mod Held
 pub mod Searching

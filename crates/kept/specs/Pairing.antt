@@ -16,11 +16,12 @@ pub data Paired {X : Type 0} (same : X → X → Bool) : List X → List X → T
   no-more : Paired same [] []
   partner : {x : X} {xs ys rest : List X} → Pick same x ys rest → Paired same xs rest → Paired same (x ∷ xs) ys
 
+-- whether nothing is left
 abbrev pub none : {X : Type 0} → List X → Bool
 none [] = true
 none (x ∷ xs) = false
 
--- the test: each takes the first that is equal
+-- the test: each element in turn takes off the first that is equal
 abbrev pub paired : {X : Type 0} → (X → X → Bool) → List X → List X → Bool
 paired same [] ys = none ys
 paired same (x ∷ xs) ys = anyBy (same x) ys && paired same xs (without (same x) ys)
@@ -38,6 +39,7 @@ countBy p (x ∷ xs) = one (p x) + countBy p xs
 abbrev pub Counted : {X : Type 0} → (X → X → Bool) → List X → List X → Type 0
 Counted {X} same xs ys = (z : X) → countBy (same z) xs ≡ countBy (same z) ys
 
+-- the laws
 pub record Pairing-is-equivalence {X : Type 0} (same : X → X → Bool) : Type 0 where
   pub reflexive : (xs : List X) → Paired same xs xs
   pub symmetric : (xs ys : List X) → Paired same xs ys → Paired same ys xs

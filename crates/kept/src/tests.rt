@@ -20,7 +20,9 @@ fn kept_of<'a, T: Copy>(places: &'a mut [T], xs: &[T]) -> Kept<'a, T> {
 #[test]
 fn a_push_is_refused_when_full() -> Result<(), Fail> {
     let mut places = [0u32; 2];
-    let mut kept = kept_of(&mut places, &[7]);
+    let mut kept = Kept::new(&mut places);
+    check(kept.is_empty())?;
+    check(kept.push(7).is_ok())?;
     check(kept.push(8).is_ok())?;
     check(kept.push(9).is_err())?;
     check_eq(kept.find(&ByNumber, &9), None)

@@ -1,3 +1,4 @@
+-- The law of searching.
 use Rattle.kept.proofs.Finding.{finds-first}
 use Rattle.kept.proofs.laws.finding_is_first.Needs as need
 

@@ -1,3 +1,4 @@
+-- The relation by counts, for a lawful equality.
 use Rattle.kept.proofs.PairLaws.{lawful-at, pairing-by-counts}
 use Rattle.kept.proofs.laws.pairing_is_counted.Needs as need
 

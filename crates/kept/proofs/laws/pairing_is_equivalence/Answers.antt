@@ -1,3 +1,4 @@
+-- The three laws, for a lawful equality.
 use Rattle.kept.proofs.PairLaws.{lawful-at, pairing-is-equivalence}
 use Rattle.kept.proofs.laws.pairing_is_equivalence.Needs as need
 

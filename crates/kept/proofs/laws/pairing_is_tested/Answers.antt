@@ -1,3 +1,4 @@
+-- The relation by the test, for a lawful equality.
 use Rattle.kept.proofs.PairLaws.{lawful-at, test-is-relation}
 use Rattle.kept.proofs.laws.pairing_is_tested.Needs as need
 

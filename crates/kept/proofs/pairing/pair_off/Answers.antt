@@ -1,3 +1,4 @@
+-- The test of `ys` against `xs` tells whether `xs` and `ys` pair off.
 use mathlib.Core.Bool.{Bool, true}
 use mathlib.Core.List.{List, _++_}
 use mathlib.Core.Logic.{_↔_}

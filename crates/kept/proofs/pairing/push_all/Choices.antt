@@ -1,3 +1,4 @@
+-- What was there, and then what was passed so far.
 use mathlib.Core.List.{_++_}
 use mathlib.Core.Path.{_≡_}
 use lib.ListN.{take}

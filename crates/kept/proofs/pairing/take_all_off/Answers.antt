@@ -1,3 +1,4 @@
+-- One more taken off, one without an equal, and the end.
 use mathlib.Core.Path.{sym, ap, _∙_}
 use Prim.Native.Nat.{_+_}
 use lib.ListN.{drop}

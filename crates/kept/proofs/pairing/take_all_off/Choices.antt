@@ -1,3 +1,4 @@
+-- What is left of both pairs off exactly where the whole does.
 use mathlib.Core.Path.{_≡_}
 use lib.ListN.{drop}
 use Rattle.kept.specs.Held.{heldBy}

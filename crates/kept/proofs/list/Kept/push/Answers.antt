@@ -1,3 +1,4 @@
+-- The written element stands at the end.
 use Prim.Native.Nat.{_<_}
 use native.Mathlib.Omega.{arith}
 use borrow.Author.Needs.{needs}

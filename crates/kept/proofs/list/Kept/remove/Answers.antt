@@ -1,3 +1,4 @@
+-- When all have moved, the element at `i` is gone.
 use Prim.Native.Nat.{_<_}
 use native.Mathlib.Omega.{arith}
 use lib.ListN.{length-take}

@@ -1,3 +1,4 @@
+-- Below `i` nothing moved, from `i` to `j` each place has what stood behind it, and the rest is as it was.
 use mathlib.Core.Path.{_≡_}
 use Prim.Native.Nat.{ℕ, _+_, _<_, _≤_}
 use lib.ListN.{length, getD}

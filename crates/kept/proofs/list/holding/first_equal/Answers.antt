@@ -1,3 +1,4 @@
+-- The first equal element, or none to the end.
 use mathlib.Core.Bool.{Bool, false}
 use mathlib.Core.Path.{_≡_, sym, ap, _∙_, subst}
 use Rattle.std.proofs.shelf.Elements.{all-more}

@@ -1,3 +1,4 @@
+-- None of the elements passed so far is equal.
 use mathlib.Core.Bool.{false}
 use mathlib.Core.Path.{_≡_}
 use lib.ListN.{take}
