@@ -1,0 +1,2 @@
+// The theory of nodes: each function stands for the theorem that it ensures.
+pub mod reading;
