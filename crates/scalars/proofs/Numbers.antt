@@ -125,35 +125,40 @@ grows radix h (b ∷ bs) v n last t e = go (way radix v last (classOf b)) (grows
     go (digit p) ih e = omega (arith, ih (v * radix + classOf b) n true t e, mul-le-mul-left v h, mul-one v)
     go refused ih e = absurd (apart-states (run radix lost bs) n t (run-lost radix bs) e)
 
--- what is left leads to what the whole leads to
-abbrev pub Left : ℕ → List ℕ → ℕ → Bool → ℕ → Type 0
-Left radix ds v last i = run radix (so-far v last) (drop i ds) ≡ run radix start ds
+-- the loop at the byte i: what is left leads to what the whole leads to
+pub record Left (radix : ℕ) (ds : List ℕ) (v : ℕ) (last : Bool) (i : ℕ) : Type 0 where
+  pub leads : run radix (so-far v last) (drop i ds) ≡ run radix start ds
+  pub fits : v < 2 ^ 64
 
--- the turn of the loop at the byte i, whose class is d
-module _ (radix : ℕ) (ds : List ℕ) (v : ℕ) (last : Bool) (i d : ℕ) (within : i < length ds) (is : d ≡ classOf (getD ds i 0)) (left : Left radix ds v last i) where
-  left-at : run radix (advance radix v last d) (drop (i + 1) ds) ≡ run radix start ds
-  left-at = ap (λ x. run radix (advance radix v last x) (drop (i + 1) ds)) is ∙ sym (at-drop-more (run radix (so-far v last)) ds i 0 within) ∙ left
+-- one turn, at a byte of class d
+module _ {radix : ℕ} {ds : List ℕ} {v : ℕ} {last : Bool} {i d : ℕ} (left : Left radix ds v last i) (within : i < length ds) (is : d ≡ classOf (getD ds i 0)) where
+  leads-on : run radix (advance radix v last d) (drop (i + 1) ds) ≡ run radix start ds
+  leads-on =
+      ap (λ x. run radix (advance radix v last x) (drop (i + 1) ds)) is ∙ sym (at-drop-more (run radix (so-far v last)) ds i 0 within)
+      ∙ left .leads
 
-  pub left-more : (v′ : ℕ) (last′ : Bool) → advance radix v last d ≡ so-far v′ last′ → Left radix ds v′ last′ (i + 1)
-  left-more v′ last′ e = ap (λ s. run radix s (drop (i + 1) ds)) (sym e) ∙ left-at
+  leads-after : (s : State) → advance radix v last d ≡ s → run radix s (drop (i + 1) ds) ≡ run radix start ds
+  leads-after s e = ap (λ s. run radix s (drop (i + 1) ds)) (sym e) ∙ leads-on
+
+  pub goes-on : (v′ : ℕ) (last′ : Bool) → advance radix v last d ≡ so-far v′ last′ → v′ < 2 ^ 64 → Left radix ds v′ last′ (i + 1)
+  goes-on v′ last′ e fits = record { leads = leads-after (so-far v′ last′) e; fits = fits }
 
   pub refuses : radix ≤ 16 → advance radix v last d ≡ lost → Number radix ds None
   refuses small e n spelled fits =
-      apart-states (run radix start ds) n true (sym left-at ∙ ap (λ s. run radix s (drop (i + 1) ds)) e ∙ run-lost radix (drop (i + 1) ds))
-      (reads small spelled)
+      apart-states (run radix start ds) n true (sym (leads-after lost e) ∙ run-lost radix (drop (i + 1) ds)) (reads small spelled)
 
   pub overflows : 1 ≤ radix → radix ≤ 16 → d < radix → 2 ^ 64 ≤ v * radix + d → Number radix ds None
   overflows some small h large n spelled fits =
-      let e = left-more _ true (advance-digit radix v last d small h) in
+      let e = leads-after (so-far (v * radix + d) true) (advance-digit radix v last d small h) in
       omega (arith, grows radix some (drop (i + 1) ds) (v * radix + d) n true true (e ∙ reads small spelled))
 
--- all bytes are read
-module _ (radix : ℕ) (ds : List ℕ) (v : ℕ) (last : Bool) (i : ℕ) (past : length ds ≤ i) (left : Left radix ds v last i) where
+-- the end of the loop
+module _ {radix : ℕ} {ds : List ℕ} {v : ℕ} {last : Bool} {i : ℕ} (left : Left radix ds v last i) (past : length ds ≤ i) where
   whole-read : so-far v last ≡ run radix start ds
-  whole-read = sym (at-drop-all (run radix (so-far v last)) ds i past) ∙ left
+  whole-read = sym (at-drop-all (run radix (so-far v last)) ds i past) ∙ left .leads
 
-  pub ends-read : last ≡ true → v < 2 ^ 64 → Number radix ds (Some v)
-  ends-read e fits = (spelled radix ds v (sym whole-read ∙ ap (so-far v) e), fits)
+  pub ends-read : last ≡ true → Number radix ds (Some v)
+  ends-read e = (spelled radix ds v (sym whole-read ∙ ap (so-far v) e), left .fits)
 
   pub ends-open : last ≡ false → radix ≤ 16 → Number radix ds None
   ends-open e small n spelled fits =

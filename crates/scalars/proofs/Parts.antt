@@ -115,7 +115,7 @@ from-parts r d p =
     }
 
 -- the code's own words for the parts
-module _ {t : List ℕ} (r u ds : List ℕ) (b : Bool) (radix : ℕ) (d : Trimmed t r) (is-minus : b ≡ isMinus r) (is-rest : u ≡ unsigned r) (is-radix : radix ≡ radixOf u) (is-digits : ds ≡ digitsOf u) where
+module _ {t r u ds : List ℕ} {b : Bool} {radix : ℕ} (d : Trimmed t r) (is-minus : b ≡ isMinus r) (is-rest : u ≡ unsigned r) (is-radix : radix ≡ radixOf u) (is-digits : ds ≡ digitsOf u) where
   pub into-says : {n : Bool} {m : ℕ} → Spells t n m → Says b radix ds n m
   into-says {n} {m} s =
       subst (λ x. Says x radix ds n m) (sym is-minus)

@@ -6,8 +6,5 @@ ghost use Rattle.std.specs.Orderings.{Decides};
 pub fn scalar_is_nullish(text: &[u8]) -> bool
     ensures { λ r. ⌜ Decides r (Nullish (now (text .entry))) ⌝ }
 {
-    match text {
-        [] | [b'~'] => true,
-        _ => text.eq_ignore_ascii_case(b"null"),
-    }
+    text.is_empty() || text == b"~" || text.eq_ignore_ascii_case(b"null")
 }

@@ -10,7 +10,7 @@ use Rattle.scalars.proofs.integer.parse_integer.Needs as need
 pub returns-then-leading-zero : need.returns-then-leading-zero
 returns-then-leading-zero c n m s fits =
     c .if-leading-zero .ensures tt
-    (into-says (c .yaml-trim .result .now) (c .split-sign-minus .result .1 .now) (c .radix-and-digits-radix .result .1 .now) (c .split-sign-minus .result .0) (c .radix-and-digits-radix .result .0) (c .yaml-trim .ensures)
+    (into-says (c .yaml-trim .ensures)
     (c .split-sign-minus .ensures .minus) (c .split-sign-minus .ensures .rest) (c .radix-and-digits-radix .ensures .radix) (c .radix-and-digits-radix .ensures .digits) s .plain)
 
 pub returns-in-Break-magnitude : need.returns-in-Break-magnitude
@@ -18,13 +18,13 @@ returns-in-Break-magnitude c =
     subst (Reading (c .args .text .now)) (sym (c .from-residual .ensures))
     (λ n m s fits.
     c .in-Break-magnitude .ensures tt m
-    (into-says (c .yaml-trim .result .now) (c .split-sign-minus .result .1 .now) (c .radix-and-digits-radix .result .1 .now) (c .split-sign-minus .result .0) (c .radix-and-digits-radix .result .0) (c .yaml-trim .ensures)
+    (into-says (c .yaml-trim .ensures)
     (c .split-sign-minus .ensures .minus) (c .split-sign-minus .ensures .rest) (c .radix-and-digits-radix .ensures .radix) (c .radix-and-digits-radix .ensures .digits) s .spelled)
     fits)
 
 pub returns-then-minus : need.returns-then-minus
 returns-then-minus c = (
-  from-says (c .yaml-trim .result .now) (c .split-sign-minus .result .1 .now) (c .radix-and-digits-radix .result .1 .now) (c .split-sign-minus .result .0) (c .radix-and-digits-radix .result .0) (c .yaml-trim .ensures)
+  from-says (c .yaml-trim .ensures)
       (c .split-sign-minus .ensures .minus) (c .split-sign-minus .ensures .rest) (c .radix-and-digits-radix .ensures .radix) (c .radix-and-digits-radix .ensures .digits)
       record {
         spelled = c .in-Continue-magnitude .ensures tt .0;
@@ -36,7 +36,7 @@ returns-then-minus c = (
 
 pub returns-else-minus : need.returns-else-minus
 returns-else-minus c = (
-  from-says (c .yaml-trim .result .now) (c .split-sign-minus .result .1 .now) (c .radix-and-digits-radix .result .1 .now) (c .split-sign-minus .result .0) (c .radix-and-digits-radix .result .0) (c .yaml-trim .ensures)
+  from-says (c .yaml-trim .ensures)
       (c .split-sign-minus .ensures .minus) (c .split-sign-minus .ensures .rest) (c .radix-and-digits-radix .ensures .radix) (c .radix-and-digits-radix .ensures .digits)
       record {
         spelled = c .in-Continue-magnitude .ensures tt .0;

@@ -1,20 +1,19 @@
 -- The empty text and the tilde; the search knows the third case from `eq_ignore_ascii_case`.
-use mathlib.Core.Path.{_≡_, refl, ap₂}
-use mathlib.Core.List.{List, [], _∷_}
+use lib.Chars.{codes}
 use mathlib.Core.Logic.{inl, inr}
-use Prim.Native.Nat.{ℕ}
 use native.Mathlib.Omega.{arith}
 use borrow.Author.Needs.{needs}
-use lib.ListN.{length, getD}
+use Rattle.std.proofs.shelf.Equals.{matches-decides}
 use Rattle.std.proofs.shelf.Lists.{nil-from-length}
+use Rattle.std.proofs.shelf.Ways.{tells}
 use Rattle.scalars.proofs.nulls.scalar_is_nullish.Needs as need
+use Rattle.scalars.proofs.nulls.scalar_is_nullish.Needs.{then-is-empty, else-is-empty}
 
-alone : (s : List ℕ) (b : ℕ) → length s ≡ 1 → getD s 0 0 ≡ b → s ≡ b ∷ []
-alone [] b h e = absurd (omega arith)
-alone (x ∷ xs) b h e = ap₂ _∷_ e (nil-from-length xs (omega arith))
-
-pub returns-in-empty : need.returns-in-empty
-returns-in-empty c = (λ _. inl (nil-from-length (c .args .text .now) (search needs)), λ _. refl)
-
-pub returns-in-empty·2 : need.returns-in-empty·2
-returns-in-empty·2 c = (λ _. inr (inl (alone (c .args .text .now) 126 (search needs) (search needs))), λ _. refl)
+pub returns-then-eq : need.returns-then-eq
+returns-then-eq c = (
+  λ h. elim (c .if-is-empty .came) [
+    | then-is-empty w ↦ inl (nil-from-length (c .args .text .now) (grind (arith, tells)))
+    | else-is-empty w ↦ inr (inl (matches-decides (c .args .text .now) (codes "~") (w .eq .result) (w .eq .ensures) .0 (cc)))
+  ],
+  λ _. search needs,
+)
