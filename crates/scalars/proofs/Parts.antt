@@ -1,9 +1,8 @@
 -- The parts of a spelled integer are those that the code finds.
 use mathlib.Core.Path.{_≡_, refl, sym, ap, _∙_, subst}
-use mathlib.Core.List.{List, [], _∷_, _++_, append-nil}
-use mathlib.Core.Bool.{Bool, true, false, not, _&&_}
-use mathlib.Core.Logic.{inl, inr}
-use Prim.Native.Nat.{ℕ, _<_, _≤_, _^_}
+use mathlib.Core.List.{List, _++_}
+use mathlib.Core.Bool.{Bool, true, not, _&&_}
+use Prim.Native.Nat.{ℕ, _<_, _≤_}
 use native.Mathlib.Omega.{arith}
 use lib.Dec.{eqb, lit≤}
 use lib.ListN.{getD}
@@ -12,7 +11,7 @@ use Rattle.std.proofs.shelf.Elements.{all-append, all-weaker}
 use Rattle.scalars.specs.Class.{classOf}
 use Rattle.scalars.specs.Radices.{radixOf, digitsOf}
 use Rattle.scalars.specs.Signs.{isMinus, unsigned}
-use Rattle.scalars.specs.Trimmed.{blank, Trimmed}
+use Rattle.scalars.specs.Trimmed.{Trimmed}
 use Rattle.scalars.specs.Spelling.{Sign, Prefix, Digits, Plain, Spells, Spelling-unique}
 use Rattle.scalars.specs.Spelling.Sign.{unsigned as no-sign, plus, minus}
 use Rattle.scalars.specs.Spelling.Prefix.{decimal, small-x, large-x, small-o, large-o, small-b, large-b}

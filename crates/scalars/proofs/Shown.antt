@@ -2,7 +2,7 @@
 use mathlib.Core.Path.{_≡_, refl, sym, ap, subst}
 use mathlib.Core.List.{List, [], _∷_, _++_, append-nil}
 use mathlib.Core.Bool.{Bool, true, false, not, _&&_}
-use Prim.Native.Nat.{ℕ, _<_, _^_}
+use Prim.Native.Nat.{ℕ}
 use native.Mathlib.Omega.{arith}
 use lib.Chars.{codes}
 use lib.Dec.{eqb, lit≤}
@@ -12,12 +12,12 @@ use Rattle.std.proofs.shelf.Lists.{nil-from-length}
 use Rattle.std.proofs.shelf.Tests.{and-parts, not-true}
 use Rattle.scalars.specs.Examples.{Integer-examples}
 use Rattle.scalars.specs.Trimmed.{blank, Trimmed}
-use Rattle.scalars.specs.Spelling.{Sign, Prefix, Digits, Plain, Spells, Unspelled}
-use Rattle.scalars.specs.Spelling.Sign.{unsigned as no-sign, plus, minus}
+use Rattle.scalars.specs.Spelling.{Sign, Prefix, Plain, Spells}
+use Rattle.scalars.specs.Spelling.Sign.{unsigned as no-sign, minus}
 use Rattle.scalars.specs.Spelling.Prefix.{decimal, small-x}
 use Rattle.scalars.proofs.Numbers.{run, start, reads, spelled, apart-states}
 use Rattle.scalars.proofs.Numbers.State.{so-far, lost}
-use Rattle.scalars.proofs.Parts.{Parts, Says, into-parts, so-far-number}
+use Rattle.scalars.proofs.Parts.{Parts, into-parts, so-far-number}
 use Rattle.scalars.proofs.Trimming.{Bare, trimmed-bare}
 
 -- no blanks around, and digits that antt reads

@@ -1,6 +1,6 @@
 -- The radix that the prefix of a number names. Past the end of a text stands 0, which is in no prefix.
 use mathlib.Core.List.{List}
-use mathlib.Core.Bool.{Bool, cond, _||_}
+use mathlib.Core.Bool.{cond, _||_}
 use Prim.Native.Nat.{ℕ}
 use lib.Dec.{eqb}
 use lib.ListN.{getD, drop}

@@ -26,16 +26,17 @@ pub data Prefix : List ℕ → ℕ → Type 0 where
   small-b : Prefix (codes "0b") 2
   large-b : Prefix (codes "0B") 2
 
--- digits of a radix, with an underscore between two at most, and the number that they spell
+-- digits of a radix, and the number that they spell: one; one more behind some; one more behind some and an underscore (95)
 pub data Digits (radix : ℕ) : List ℕ → ℕ → Type 0 where
   one : (b : ℕ) → classOf b < radix → Digits radix (b ∷ []) (classOf b)
   more : {ds : List ℕ} {n : ℕ} (b : ℕ) → Digits radix ds n → classOf b < radix → Digits radix (ds ++ (b ∷ [])) (n * radix + classOf b)
   apart : {ds : List ℕ} {n : ℕ} (b : ℕ) → Digits radix ds n → classOf b < radix → Digits radix (ds ++ (95 ∷ b ∷ [])) (n * radix + classOf b)
 
--- a zero that leads a decimal stands alone
+-- a zero (48) that leads a decimal stands alone
 abbrev pub Plain : ℕ → List ℕ → Type 0
 Plain radix digits = radix ≡ 10 → (rest : List ℕ) → digits ≡ 48 ∷ rest → rest ≡ []
 
+-- the text spells the integer; it is negative where a minus stands before a magnitude other than zero
 pub record Spells (text : List ℕ) (negative : Bool) (magnitude : ℕ) : Type 0 where
   pub before : List ℕ
   pub sign : List ℕ
@@ -53,7 +54,7 @@ pub record Spells (text : List ℕ) (negative : Bool) (magnitude : ℕ) : Type 0
   pub plain : Plain radix digits
   pub below-zero : negative ≡ (minus && not (eqb magnitude 0))
 
--- no integer of 64 bits
+-- the text spells no integer of 64 bits
 abbrev pub Unspelled : List ℕ → Type 0
 Unspelled text = (n : Bool) (m : ℕ) → Spells text n m → m < 2 ^ 64 → ⊥
 

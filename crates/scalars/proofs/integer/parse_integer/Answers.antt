@@ -1,10 +1,9 @@
 -- What the parts say is what the text spells.
-use mathlib.Core.Path.{_≡_, sym, ap, _∙_, subst}
+use mathlib.Core.Path.{sym, ap, _∙_, subst}
 use mathlib.Core.Bool.{not, _&&_}
 use lib.Dec.{eqb}
 use Rattle.scalars.specs.Spelling.{Reading}
 use Rattle.scalars.proofs.Parts.{into-says, from-says}
-use Rattle.scalars.proofs.Prefixes.{radix-bounds}
 use Rattle.scalars.proofs.integer.parse_integer.Needs as need
 
 pub returns-then-leading-zero : need.returns-then-leading-zero
