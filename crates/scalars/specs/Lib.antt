@@ -5,3 +5,4 @@ pub mod Radices
 pub mod Signs
 pub mod Spelling
 pub mod Trimmed
+pub mod Typed

@@ -7,3 +7,4 @@ pub mod radix;
 mod tests;
 pub mod theorems;
 pub mod trim;
+pub mod typed;
