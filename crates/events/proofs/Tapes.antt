@@ -133,3 +133,12 @@ first-is n [] = sym (same (placed n (blank .event)))
     same true = refl
     same false = refl
 first-is n (x ∷ rs) = elim (placed n (x .event)) as (λ f. ownAt unknown (cond f (x ∷ sound n rs) []) ≡ cond f (x .location) unknown) [ true ↦ refl | false ↦ refl ]
+
+-- a tape has no more events than records
+pub sound-short : (n : ℕ) (rs : List Record) → length (sound n rs) ≤ length rs
+sound-short n [] = omega arith
+sound-short n (x ∷ rs) = step (placed n (x .event)) (sound-short n rs)
+  where
+    step : (b : Bool) → length (sound n rs) ≤ length rs → length (cond b (x ∷ sound n rs) []) ≤ length (x ∷ rs)
+    step true h = omega arith
+    step false h = omega arith
