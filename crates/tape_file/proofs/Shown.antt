@@ -1,0 +1,58 @@
+-- The lines of records and of scalars, piece by piece as they are shown.
+use mathlib.Core.Path.{_≡_, refl, sym, ap, subst, _∙_}
+use mathlib.Core.List.{List, [], _∷_, _++_}
+use Prim.Native.Nat.{ℕ, _<_}
+use native.Mathlib.Omega.{arith}
+use borrow.Author.Needs.{needs}
+use lib.Chars.{codes}
+use lib.ListN.{length, length-append}
+use Rattle.std.specs.Written.{Put, decimal}
+use Rattle.std.specs.declared.fmt.Formatter.{Formatter}
+use Rattle.std.specs.declared.option.Option.{Option}
+use Rattle.std.specs.declared.option.Option.the-variants.{Some, None}
+use Rattle.records.specs.declared.location.NodeOrigin.{NodeOrigin}
+use Rattle.records.specs.declared.location.NodeOrigin.the-variants.{Direct, Alias, Merge}
+use Rattle.records.specs.declared.record.Event.{Event}
+use Rattle.records.specs.declared.record.Event.the-variants.{Scalar, SeqStart, SeqEnd, MapStart, MapEnd, RecursiveAlias}
+use Rattle.records.specs.declared.record.Place.{Place}
+use Rattle.records.specs.declared.record.Record.{Record}
+use Rattle.records.specs.declared.record.ScalarStyle.{ScalarStyle}
+use Rattle.records.specs.declared.tags.SfTag.{SfTag}
+use Rattle.tape_file.specs.Lines.{tagWord, styleWord, locationWords, originWords, placeWords, rawWords, eventWords, recordWords, written}
+use Rattle.tape_file.specs.Spaces.{spaced, onward}
+use Rattle.tape_file.proofs.Spacing.{spaced-append}
+
+raw-some : (o : Option Place) → 0 < length (rawWords o)
+raw-some None = search needs
+raw-some (Some p) = search needs
+
+origin-some : (o : NodeOrigin) → 0 < length (originWords o)
+origin-some Direct = search needs
+origin-some (Alias l) = search needs
+origin-some (Merge l) = search needs
+
+event-some : (e : Event) → 0 < length (eventWords e)
+event-some (Scalar a t o s v) = search needs
+event-some (SeqStart a t o) = search needs
+event-some SeqEnd = search needs
+event-some (MapStart a t o) = search needs
+event-some MapEnd = search needs
+event-some (RecursiveAlias a) = search needs
+
+pub record-shown : (r : Record) → spaced (locationWords (r .location)) ++ (32 ∷ (spaced (originWords (r .origin)) ++ (32 ∷ spaced (eventWords (r .event))))) ≡ written r
+record-shown r =
+    sym (spaced-append (locationWords (r .location)) (originWords (r .origin) ++ eventWords (r .event)) (search needs) (omega (arith, length-append (originWords (r .origin)) (eventWords (r .event)), origin-some (r .origin)))
+    ∙ ap (λ (l : List ℕ). spaced (locationWords (r .location)) ++ (32 ∷ l)) (spaced-append (originWords (r .origin)) (eventWords (r .event)) (origin-some (r .origin)) (event-some (r .event))))
+
+-- w and u are the words for the tag and the style
+pub scalar-shown : (a : ℕ) (t : SfTag) (o : Option Place) (s : ScalarStyle) (v : Place) (w u : List ℕ) (e : Event) → w ≡ tagWord t → u ≡ styleWord s → e ≡ Scalar a t o s v
+    → codes "scalar " ++ (decimal a ++ (32 ∷ (w ++ (32 ∷ (spaced (rawWords o) ++ (32 ∷ (u ++ (32 ∷ spaced (placeWords v))))))))) ≡ spaced (eventWords e)
+scalar-shown a t o s v w u e p q r =
+    (λ i. codes "scalar " ++ (decimal a ++ (32 ∷ (p i ++ (32 ∷ (spaced (rawWords o) ++ (32 ∷ (q i ++ (32 ∷ spaced (placeWords v))))))))))
+    ∙ ap (λ (l : List ℕ). codes "scalar " ++ (decimal a ++ (32 ∷ l)))
+    (sym (spaced-append (tagWord t ∷ []) (rawWords o ++ (styleWord s ∷ placeWords v)) (search needs) (omega (arith, length-append (rawWords o) (styleWord s ∷ placeWords v), raw-some o))
+    ∙ ap (λ (l : List ℕ). tagWord t ++ (32 ∷ l)) (spaced-append (rawWords o) (styleWord s ∷ placeWords v) (raw-some o) (search needs))))
+    ∙ ap (λ (x : Event). spaced (eventWords x)) (sym r)
+
+pub put-same : {W : Type 0} {took : W → List ℕ → W → Type 0} {f g : Formatter W} {a b : List ℕ} → a ≡ b → Put took f a g → Put took f b g
+put-same {W} {took} {f} {g} e = subst (λ (l : List ℕ). Put took f l g) e

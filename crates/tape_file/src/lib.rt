@@ -1,0 +1,7 @@
+// The tape file: a record of a tape on each line, written and read.
+pub mod fault;
+pub mod line;
+pub mod read;
+pub mod round_trip;
+mod small;
+mod words;

@@ -1,0 +1,149 @@
+// Records as lines.
+ghost use mathlib.Core.Path.{_≡_};
+ghost use Rattle.std.specs.declared.option.Option.the-variants.{Some};
+ghost use Rattle.tape_file.specs.Lines.{tagWord, styleWord, locationWords, originWords, placeWords, rawWords, eventWords, written};
+ghost use Rattle.tape_file.specs.Spaces.{spaced};
+use records::location::Location;
+use records::location::NodeOrigin;
+use records::record::Event;
+use records::record::Place;
+use records::record::Record;
+use records::record::ScalarStyle;
+use records::tags::SfTag;
+use std::fmt;
+
+/// A record, or a part of one, to be shown as a tape file has it: `{}` of a `Line<Record>` is its line.
+#[derive(Clone, Copy)]
+pub struct Line<T>(pub T);
+
+pub(crate) fn tag_word(tag: SfTag) -> &'static str
+    ensures { λ r. ⌜ now r ≡ tagWord tag ⌝ }
+{
+    match tag {
+        SfTag::None => "none",
+        SfTag::Int => "int",
+        SfTag::Float => "float",
+        SfTag::Bool => "bool",
+        SfTag::Null => "null",
+        SfTag::Seq => "seq",
+        SfTag::Map => "map",
+        SfTag::TimeStamp => "timestamp",
+        SfTag::Binary => "binary",
+        SfTag::String => "string",
+        SfTag::Merge => "merge",
+        SfTag::Value => "value",
+        SfTag::NonSpecific => "nonspecific",
+        SfTag::Include => "include",
+        SfTag::Degrees => "degrees",
+        SfTag::Radians => "radians",
+        SfTag::Other => "other",
+    }
+}
+
+fn style_word(style: ScalarStyle) -> &'static str
+    ensures { λ r. ⌜ now r ≡ styleWord style ⌝ }
+{
+    match style {
+        ScalarStyle::Plain => "plain",
+        ScalarStyle::SingleQuoted => "single",
+        ScalarStyle::DoubleQuoted => "double",
+        ScalarStyle::Literal => "literal",
+        ScalarStyle::Folded => "folded",
+    }
+}
+
+pub impl fmt::Display for Line<Location> as LocationLine {
+    ghost shown = { λ x. Some (spaced (locationWords (x .0))) };
+
+    fn fmt<W: fmt::Write>(&self, f: &mut fmt::Formatter<W>) -> fmt::Result {
+        let Location {
+            line,
+            column,
+            source_id,
+        } = self.0;
+        write!(f, "{line} {column} {source_id}")
+    }
+}
+
+pub impl fmt::Display for Line<NodeOrigin> as OriginLine {
+    ghost shown = { λ x. Some (spaced (originWords (x .0))) };
+
+    fn fmt<W: fmt::Write>(&self, f: &mut fmt::Formatter<W>) -> fmt::Result {
+        match self.0 {
+            NodeOrigin::Direct => f.write_str("direct"),
+            NodeOrigin::Alias(at) => write!(f, "alias {}", Line(at)),
+            NodeOrigin::Merge(at) => write!(f, "merge {}", Line(at)),
+        }
+    }
+}
+
+pub impl fmt::Display for Line<Place> as PlaceLine {
+    ghost shown = { λ x. Some (spaced (placeWords (x .0))) };
+
+    fn fmt<W: fmt::Write>(&self, f: &mut fmt::Formatter<W>) -> fmt::Result {
+        let Place { start, len } = self.0;
+        write!(f, "{start} {len}")
+    }
+}
+
+pub impl fmt::Display for Line<Option<Place>> as RawTagLine {
+    ghost shown = { λ x. Some (spaced (rawWords (x .0))) };
+
+    fn fmt<W: fmt::Write>(&self, f: &mut fmt::Formatter<W>) -> fmt::Result {
+        match self.0 {
+            None => f.write_str("-"),
+            Some(place) => write!(f, "raw {}", Line(place)),
+        }
+    }
+}
+
+pub impl fmt::Display for Line<Event> as EventLine {
+    ghost shown = { λ x. Some (spaced (eventWords (x .0))) };
+
+    fn fmt<W: fmt::Write>(&self, f: &mut fmt::Formatter<W>) -> fmt::Result {
+        match self.0 {
+            Event::Scalar {
+                anchor,
+                tag,
+                raw_tag,
+                style,
+                value,
+            } => {
+                write!(
+                    f,
+                    "scalar {anchor} {} {} {} {}",
+                    tag_word(tag),
+                    Line(raw_tag),
+                    style_word(style),
+                    Line(value)
+                )
+            }
+            Event::SeqStart {
+                anchor,
+                tag,
+                raw_tag,
+            } => write!(f, "seq {anchor} {} {}", tag_word(tag), Line(raw_tag)),
+            Event::SeqEnd => f.write_str("endseq"),
+            Event::MapStart {
+                anchor,
+                tag,
+                raw_tag,
+            } => write!(f, "map {anchor} {} {}", tag_word(tag), Line(raw_tag)),
+            Event::MapEnd => f.write_str("endmap"),
+            Event::RecursiveAlias { anchor } => write!(f, "alias {anchor}"),
+        }
+    }
+}
+
+pub impl fmt::Display for Line<Record> as RecordLine {
+    ghost shown = { λ x. Some (written (x .0)) };
+
+    fn fmt<W: fmt::Write>(&self, f: &mut fmt::Formatter<W>) -> fmt::Result {
+        let Record {
+            location,
+            origin,
+            event,
+        } = self.0;
+        write!(f, "{} {} {}", Line(location), Line(origin), Line(event))
+    }
+}
