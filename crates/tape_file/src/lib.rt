@@ -4,4 +4,7 @@ pub mod line;
 pub mod read;
 pub mod round_trip;
 mod small;
+mod spelling;
+#[cfg(test)]
+mod tests;
 mod words;

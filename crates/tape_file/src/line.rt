@@ -1,58 +1,26 @@
 // Records as lines.
 ghost use mathlib.Core.Path.{_≡_};
+ghost use Rattle.std.specs.Of.String.{string-bytes};
+ghost use Rattle.std.specs.Vec.{made};
 ghost use Rattle.std.specs.declared.option.Option.the-variants.{Some};
-ghost use Rattle.tape_file.specs.Lines.{tagWord, styleWord, locationWords, originWords, placeWords, rawWords, eventWords, written};
+ghost use Rattle.tape_file.specs.Lines.{locationWords, originWords, placeWords, rawWords, eventWords, written};
 ghost use Rattle.tape_file.specs.Spaces.{spaced};
+use crate::spelling::style_word;
+use crate::spelling::tag_word;
 use records::location::Location;
 use records::location::NodeOrigin;
 use records::record::Event;
 use records::record::Place;
 use records::record::Record;
-use records::record::ScalarStyle;
-use records::tags::SfTag;
+use std::alloc::AllocError;
+use std::alloc::Global;
 use std::fmt;
 
 /// A record, or a part of one, to be shown as a tape file has it: `{}` of a `Line<Record>` is its line.
 #[derive(Clone, Copy)]
 pub struct Line<T>(pub T);
 
-pub(crate) fn tag_word(tag: SfTag) -> &'static str
-    ensures { λ r. ⌜ now r ≡ tagWord tag ⌝ }
-{
-    match tag {
-        SfTag::None => "none",
-        SfTag::Int => "int",
-        SfTag::Float => "float",
-        SfTag::Bool => "bool",
-        SfTag::Null => "null",
-        SfTag::Seq => "seq",
-        SfTag::Map => "map",
-        SfTag::TimeStamp => "timestamp",
-        SfTag::Binary => "binary",
-        SfTag::String => "string",
-        SfTag::Merge => "merge",
-        SfTag::Value => "value",
-        SfTag::NonSpecific => "nonspecific",
-        SfTag::Include => "include",
-        SfTag::Degrees => "degrees",
-        SfTag::Radians => "radians",
-        SfTag::Other => "other",
-    }
-}
-
-fn style_word(style: ScalarStyle) -> &'static str
-    ensures { λ r. ⌜ now r ≡ styleWord style ⌝ }
-{
-    match style {
-        ScalarStyle::Plain => "plain",
-        ScalarStyle::SingleQuoted => "single",
-        ScalarStyle::DoubleQuoted => "double",
-        ScalarStyle::Literal => "literal",
-        ScalarStyle::Folded => "folded",
-    }
-}
-
-pub impl fmt::Display for Line<Location> as LocationLine {
+impl fmt::Display for Line<Location> as LocationLine {
     ghost shown = { λ x. Some (spaced (locationWords (x .0))) };
 
     fn fmt<W: fmt::Write>(&self, f: &mut fmt::Formatter<W>) -> fmt::Result {
@@ -65,7 +33,7 @@ pub impl fmt::Display for Line<Location> as LocationLine {
     }
 }
 
-pub impl fmt::Display for Line<NodeOrigin> as OriginLine {
+impl fmt::Display for Line<NodeOrigin> as OriginLine {
     ghost shown = { λ x. Some (spaced (originWords (x .0))) };
 
     fn fmt<W: fmt::Write>(&self, f: &mut fmt::Formatter<W>) -> fmt::Result {
@@ -77,7 +45,7 @@ pub impl fmt::Display for Line<NodeOrigin> as OriginLine {
     }
 }
 
-pub impl fmt::Display for Line<Place> as PlaceLine {
+impl fmt::Display for Line<Place> as PlaceLine {
     ghost shown = { λ x. Some (spaced (placeWords (x .0))) };
 
     fn fmt<W: fmt::Write>(&self, f: &mut fmt::Formatter<W>) -> fmt::Result {
@@ -86,7 +54,7 @@ pub impl fmt::Display for Line<Place> as PlaceLine {
     }
 }
 
-pub impl fmt::Display for Line<Option<Place>> as RawTagLine {
+impl fmt::Display for Line<Option<Place>> as RawTagLine {
     ghost shown = { λ x. Some (spaced (rawWords (x .0))) };
 
     fn fmt<W: fmt::Write>(&self, f: &mut fmt::Formatter<W>) -> fmt::Result {
@@ -97,7 +65,7 @@ pub impl fmt::Display for Line<Option<Place>> as RawTagLine {
     }
 }
 
-pub impl fmt::Display for Line<Event> as EventLine {
+impl fmt::Display for Line<Event> as EventLine {
     ghost shown = { λ x. Some (spaced (eventWords (x .0))) };
 
     fn fmt<W: fmt::Write>(&self, f: &mut fmt::Formatter<W>) -> fmt::Result {
@@ -146,4 +114,11 @@ pub impl fmt::Display for Line<Record> as RecordLine {
         } = self.0;
         write!(f, "{} {} {}", Line(location), Line(origin), Line(event))
     }
+}
+
+/// The line of a record, as text.
+pub fn write_record(heap: Global, record: Record) -> Result<String, AllocError>
+    ensures { λ r. ⌜ made r (λ line. string-bytes line ≡ written «record») ⌝ }
+{
+    Line(record).to_string(heap)
 }

@@ -5,8 +5,11 @@ ghost use Prim.Native.Nat.{ℕ};
 ghost use lib.Chars.{codes};
 ghost use Rattle.std.specs.Written.{decimal};
 ghost use Rattle.tape_file.specs.Lines.{tagWord, styleWord, locationWords, originWords, placeWords, rawWords, eventWords, recordWords, Small, SmallLocation, SmallOrigin, SmallPlace, SmallRaw, SmallEvent, SmallRecord};
-ghost use Rattle.tape_file.specs.Reading.{left, headWords, SmallHead, Means, Parses, Reads};
+ghost use Rattle.tape_file.specs.Reading.{left, headWords, SmallHead, Parses, Reads};
 use crate::fault::LineFault;
+use crate::spelling::number_of;
+use crate::spelling::style_of;
+use crate::spelling::tag_of;
 use crate::words::Words;
 use records::location::Location;
 use records::location::NodeOrigin;
@@ -177,65 +180,4 @@ fn style(words: &mut Words) -> Result<ScalarStyle, LineFault>
     ensures { λ r. ⌜ Parses (λ s. styleWord s ∷ []) (λ _. Unit {0}) (left (now (words .entry) .rest)) r (left (now (words .exit) .rest)) ⌝ }
 {
     style_of(words.next()?)
-}
-
-// A number as `{}` writes it.
-fn number_of(word: &str) -> Result<u32, LineFault>
-    ensures { λ r. ⌜ Means decimal Small (now (word .entry)) r ⌝ }
-{
-    if word == "0" {
-        return Ok(0);
-    }
-    if word.starts_with('0') {
-        return Err(LineFault::NoNumber);
-    }
-    if word.starts_with('+') {
-        return Err(LineFault::NoNumber);
-    }
-    match word.parse::<u32>() {
-        Ok(n) => Ok(n),
-        Err(_) => Err(LineFault::NoNumber),
-    }
-}
-
-fn tag_of(word: &str) -> Result<SfTag, LineFault>
-    ensures { λ r. ⌜ Means tagWord (λ _. Unit {0}) (now (word .entry)) r ⌝ }
-{
-    Ok(
-        match word {
-            "none" => SfTag::None,
-            "int" => SfTag::Int,
-            "float" => SfTag::Float,
-            "bool" => SfTag::Bool,
-            "null" => SfTag::Null,
-            "seq" => SfTag::Seq,
-            "map" => SfTag::Map,
-            "timestamp" => SfTag::TimeStamp,
-            "binary" => SfTag::Binary,
-            "string" => SfTag::String,
-            "merge" => SfTag::Merge,
-            "value" => SfTag::Value,
-            "nonspecific" => SfTag::NonSpecific,
-            "include" => SfTag::Include,
-            "degrees" => SfTag::Degrees,
-            "radians" => SfTag::Radians,
-            "other" => SfTag::Other,
-            _ => return Err(LineFault::NoTag),
-        },
-    )
-}
-
-fn style_of(word: &str) -> Result<ScalarStyle, LineFault>
-    ensures { λ r. ⌜ Means styleWord (λ _. Unit {0}) (now (word .entry)) r ⌝ }
-{
-    Ok(
-        match word {
-            "plain" => ScalarStyle::Plain,
-            "single" => ScalarStyle::SingleQuoted,
-            "double" => ScalarStyle::DoubleQuoted,
-            "literal" => ScalarStyle::Literal,
-            "folded" => ScalarStyle::Folded,
-            _ => return Err(LineFault::NoStyle),
-        },
-    )
 }

@@ -7,7 +7,7 @@ use Rattle.std.proofs.shelf.Decimals.{decimal-digit, parses-back}
 use Rattle.std.proofs.shelf.Patterns.{starts-char}
 use Rattle.std.proofs.shelf.Tests.{both-ways}
 use Rattle.tape_file.proofs.Numbers.{zero-alone, no-mark-first, parsed}
-use Rattle.tape_file.proofs.read.number_of.Needs as need
+use Rattle.tape_file.proofs.spelling.number_of.Needs as need
 
 pub returns-then-eq : need.returns-then-eq
 returns-then-eq c = (lit< tt, c .eq .ensures .0 (c .if-eq .taken) ∙ sym (decimal-digit 0 (lit< tt)))
