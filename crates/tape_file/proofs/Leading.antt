@@ -17,8 +17,8 @@ use Rattle.records.specs.declared.record.Place.{Place}
 use Rattle.records.specs.declared.record.ScalarStyle.{ScalarStyle}
 use Rattle.records.specs.declared.tags.SfTag.{SfTag}
 use Rattle.tape_file.specs.Lines.{locationWords, originWords, placeWords, rawWords, nodeWords, eventWords, styleWord, Small, SmallLocation, SmallOrigin, SmallPlace, SmallRaw, SmallEvent}
-use Rattle.tape_file.specs.Reading.{headWords, SmallHead}
-use Rattle.tape_file.specs.declared.read.Head.{Head}
+use Rattle.tape_file.specs.Heads.{headWords, SmallHead}
+use Rattle.tape_file.specs.declared.head.Head.{Head}
 use Rattle.tape_file.proofs.Parsing.{Leads}
 
 abbrev first : List (List ℕ) → List ℕ

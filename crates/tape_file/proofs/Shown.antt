@@ -17,14 +17,11 @@ use Rattle.records.specs.declared.record.Event.the-variants.{Scalar, SeqStart, 
 use Rattle.records.specs.declared.record.Place.{Place}
 use Rattle.records.specs.declared.record.Record.{Record}
 use Rattle.records.specs.declared.record.ScalarStyle.{ScalarStyle}
-use Rattle.records.specs.declared.tags.SfTag.{SfTag}
+use Rattle.tape_file.specs.Heads.{headWords}
 use Rattle.tape_file.specs.Lines.{tagWord, styleWord, locationWords, originWords, placeWords, rawWords, eventWords, recordWords, written}
 use Rattle.tape_file.specs.Spaces.{spaced, onward}
+use Rattle.tape_file.specs.declared.head.Head.{Head}
 use Rattle.tape_file.proofs.Spacing.{spaced-append}
-
-raw-some : (o : Option Place) → 0 < length (rawWords o)
-raw-some None = search needs
-raw-some (Some p) = search needs
 
 origin-some : (o : NodeOrigin) → 0 < length (originWords o)
 origin-some Direct = search needs
@@ -44,15 +41,13 @@ record-shown r =
     sym (spaced-append (locationWords (r .location)) (originWords (r .origin) ++ eventWords (r .event)) (search needs) (omega (arith, length-append (originWords (r .origin)) (eventWords (r .event)), origin-some (r .origin)))
     ∙ ap (λ (l : List ℕ). spaced (locationWords (r .location)) ++ (32 ∷ l)) (spaced-append (originWords (r .origin)) (eventWords (r .event)) (origin-some (r .origin)) (event-some (r .event))))
 
--- w and u are the words for the tag and the style
-pub scalar-shown : (a : ℕ) (t : SfTag) (o : Option Place) (s : ScalarStyle) (v : Place) (w u : List ℕ) (e : Event) → w ≡ tagWord t → u ≡ styleWord s → e ≡ Scalar a t o s v
-    → codes "scalar " ++ (decimal a ++ (32 ∷ (w ++ (32 ∷ (spaced (rawWords o) ++ (32 ∷ (u ++ (32 ∷ spaced (placeWords v))))))))) ≡ spaced (eventWords e)
-scalar-shown a t o s v w u e p q r =
-    (λ i. codes "scalar " ++ (decimal a ++ (32 ∷ (p i ++ (32 ∷ (spaced (rawWords o) ++ (32 ∷ (q i ++ (32 ∷ spaced (placeWords v))))))))))
-    ∙ ap (λ (l : List ℕ). codes "scalar " ++ (decimal a ++ (32 ∷ l)))
-    (sym (spaced-append (tagWord t ∷ []) (rawWords o ++ (styleWord s ∷ placeWords v)) (search needs) (omega (arith, length-append (rawWords o) (styleWord s ∷ placeWords v), raw-some o))
-    ∙ ap (λ (l : List ℕ). tagWord t ++ (32 ∷ l)) (spaced-append (rawWords o) (styleWord s ∷ placeWords v) (raw-some o) (search needs))))
-    ∙ ap (λ (x : Event). spaced (eventWords x)) (sym r)
+-- u is the word for the style
+pub scalar-shown : (h : Head) (s : ScalarStyle) (v : Place) (u : List ℕ) (e : Event) → u ≡ styleWord s → e ≡ Scalar (h .anchor) (h .tag) (h .«raw_tag») s v
+    → codes "scalar " ++ (spaced (headWords h) ++ (32 ∷ (u ++ (32 ∷ spaced (placeWords v))))) ≡ spaced (eventWords e)
+scalar-shown h s v u e p q =
+    (λ i. codes "scalar " ++ (spaced (headWords h) ++ (32 ∷ (p i ++ (32 ∷ spaced (placeWords v))))))
+    ∙ ap (λ (l : List ℕ). codes "scalar " ++ l) (sym (spaced-append (headWords h) (styleWord s ∷ placeWords v) (search needs) (search needs)))
+    ∙ ap (λ (x : Event). spaced (eventWords x)) (sym q)
 
 pub put-same : {W : Type 0} {took : W → List ℕ → W → Type 0} {f g : Formatter W} {a b : List ℕ} → a ≡ b → Put took f a g → Put took f b g
 put-same {W} {took} {f} {g} e = subst (λ (l : List ℕ). Put took f l g) e

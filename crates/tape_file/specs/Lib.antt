@@ -1,3 +1,4 @@
-pub mod Spaces
+pub mod Heads
 pub mod Lines
 pub mod Reading
+pub mod Spaces

@@ -9,8 +9,7 @@ use Rattle.std.specs.declared.result.Result.{Result}
 use Rattle.std.specs.declared.result.Result.the-variants.{Ok, Err}
 use Rattle.records.specs.declared.record.Record.{Record}
 use Rattle.tape_file.specs.Spaces.{split}
-use Rattle.tape_file.specs.Lines.{nodeWords, written, Small, SmallRaw, SmallRecord}
-use Rattle.tape_file.specs.declared.read.Head.{Head}
+use Rattle.tape_file.specs.Lines.{written, SmallRecord}
 
 -- the words that are still to be read
 abbrev pub left : Option (RefT (List ℕ)) → List (List ℕ)
@@ -41,12 +40,6 @@ pub record Lacks {X : Type 0} (words : X → List (List ℕ)) (Fits : X → Type
 abbrev pub Parses : {X E : Type 0} → (X → List (List ℕ)) → (X → Type 0) → List (List ℕ) → Result X E → List (List ℕ) → Type 0
 Parses words Fits ws (Ok x) rest = Whole words Fits ws x rest
 Parses words Fits ws (Err e) rest = Lacks words Fits ws
-
-abbrev pub headWords : Head → List (List ℕ)
-headWords h = nodeWords (h .anchor) (h .tag) (h .«raw_tag»)
-
-abbrev pub SmallHead : Head → Type 0
-SmallHead h = Small (h .anchor) × SmallRaw (h .«raw_tag»)
 
 -- a line means the record whose line it is
 abbrev pub Reads : {E : Type 0} → List ℕ → Result Record E → Type 0

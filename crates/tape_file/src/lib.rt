@@ -1,5 +1,6 @@
 // The tape file: a record of a tape on each line, written and read.
 pub mod fault;
+mod head;
 pub mod line;
 pub mod read;
 pub mod round_trip;

@@ -3,8 +3,10 @@ ghost use mathlib.Core.Path.{_≡_};
 ghost use Rattle.std.specs.Of.String.{string-bytes};
 ghost use Rattle.std.specs.Vec.{made};
 ghost use Rattle.std.specs.declared.option.Option.the-variants.{Some};
+ghost use Rattle.tape_file.specs.Heads.{headWords};
 ghost use Rattle.tape_file.specs.Lines.{locationWords, originWords, placeWords, rawWords, eventWords, written};
 ghost use Rattle.tape_file.specs.Spaces.{spaced};
+use crate::head::Head;
 use crate::spelling::style_word;
 use crate::spelling::tag_word;
 use records::location::Location;
@@ -65,6 +67,19 @@ impl fmt::Display for Line<Option<Place>> as RawTagLine {
     }
 }
 
+impl fmt::Display for Line<Head> as HeadLine {
+    ghost shown = { λ x. Some (spaced (headWords (x .0))) };
+
+    fn fmt<W: fmt::Write>(&self, f: &mut fmt::Formatter<W>) -> fmt::Result {
+        let Head {
+            anchor,
+            tag,
+            raw_tag,
+        } = self.0;
+        write!(f, "{anchor} {} {}", tag_word(tag), Line(raw_tag))
+    }
+}
+
 impl fmt::Display for Line<Event> as EventLine {
     ghost shown = { λ x. Some (spaced (eventWords (x .0))) };
 
@@ -77,26 +92,40 @@ impl fmt::Display for Line<Event> as EventLine {
                 style,
                 value,
             } => {
-                write!(
-                    f,
-                    "scalar {anchor} {} {} {} {}",
-                    tag_word(tag),
-                    Line(raw_tag),
-                    style_word(style),
-                    Line(value)
-                )
+                let head = Line(Head {
+                    anchor,
+                    tag,
+                    raw_tag,
+                });
+                write!(f, "scalar {head} {} {}", style_word(style), Line(value))
             }
             Event::SeqStart {
                 anchor,
                 tag,
                 raw_tag,
-            } => write!(f, "seq {anchor} {} {}", tag_word(tag), Line(raw_tag)),
+            } => write!(
+                f,
+                "seq {}",
+                Line(Head {
+                    anchor,
+                    tag,
+                    raw_tag
+                })
+            ),
             Event::SeqEnd => f.write_str("endseq"),
             Event::MapStart {
                 anchor,
                 tag,
                 raw_tag,
-            } => write!(f, "map {anchor} {} {}", tag_word(tag), Line(raw_tag)),
+            } => write!(
+                f,
+                "map {}",
+                Line(Head {
+                    anchor,
+                    tag,
+                    raw_tag
+                })
+            ),
             Event::MapEnd => f.write_str("endmap"),
             Event::RecursiveAlias { anchor } => write!(f, "alias {anchor}"),
         }

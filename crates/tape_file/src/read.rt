@@ -4,9 +4,11 @@ ghost use mathlib.Core.List.{List, [], _∷_};
 ghost use Prim.Native.Nat.{ℕ};
 ghost use lib.Chars.{codes};
 ghost use Rattle.std.specs.Written.{decimal};
+ghost use Rattle.tape_file.specs.Heads.{headWords, SmallHead};
 ghost use Rattle.tape_file.specs.Lines.{tagWord, styleWord, locationWords, originWords, placeWords, rawWords, eventWords, recordWords, Small, SmallLocation, SmallOrigin, SmallPlace, SmallRaw, SmallEvent, SmallRecord};
-ghost use Rattle.tape_file.specs.Reading.{left, headWords, SmallHead, Parses, Reads};
+ghost use Rattle.tape_file.specs.Reading.{left, Parses, Reads};
 use crate::fault::LineFault;
+use crate::head::Head;
 use crate::spelling::number_of;
 use crate::spelling::style_of;
 use crate::spelling::tag_of;
@@ -124,13 +126,6 @@ fn scalar(words: &mut Words) -> Result<Event, LineFault>
         style,
         value,
     })
-}
-
-/// What the events that begin a node have in common.
-struct Head {
-    anchor: u32,
-    tag: SfTag,
-    raw_tag: Option<Place>,
 }
 
 fn node(words: &mut Words) -> Result<Head, LineFault>

@@ -19,13 +19,6 @@ fn reads_as(line: &str, record: Record) -> Result<(), Fail> {
     check(read_record(line)? == record)
 }
 
-fn refuses(line: &str, fault: LineFault) -> Result<(), Fail> {
-    match read_record(line) {
-        Ok(_) => Err(Fail::new(line)),
-        Err(why) => check_eq(why, fault),
-    }
-}
-
 fn at(line: u32, column: u32) -> Location {
     Location {
         line,
@@ -84,26 +77,26 @@ fn every_tag_word(rt: LibcRuntime) -> Result<(), Fail> {
 }
 
 #[test]
-fn numbers_in_one_form() -> Result<(), Fail> {
-    refuses("01 1 0 direct endmap", LineFault::NoNumber)?;
-    refuses("+1 1 0 direct endmap", LineFault::NoNumber)?;
-    refuses("1 4294967296 0 direct endmap", LineFault::NoNumber)?;
-    check(read_record("1 4294967295 0 direct endmap").is_ok())
-}
-
-#[test]
-fn words_in_place() -> Result<(), Fail> {
-    refuses("1  1 0 direct endmap", LineFault::NoNumber)?;
-    refuses("1 1 0 direct endmap ", LineFault::WordsLeftOver)?;
-    refuses("1 1 0 direct endmap endmap", LineFault::WordsLeftOver)?;
-    refuses("1 1 0 direct", LineFault::MissingWord)?;
-    refuses("1 1 0 indirect endmap", LineFault::NoOrigin)?;
-    refuses("1 1 0 direct end", LineFault::NoEvent)
-}
-
-#[test]
-fn words_of_events() -> Result<(), Fail> {
-    refuses("1 1 0 direct map 0 text -", LineFault::NoTag)?;
-    refuses("1 1 0 direct map 0 none +", LineFault::NoRawTag)?;
-    refuses("1 1 0 direct scalar 0 none - bold 0 1", LineFault::NoStyle)
+fn refused_lines() -> Result<(), Fail> {
+    let lines = [
+        ("01 1 0 direct endmap", LineFault::NoNumber),
+        ("+1 1 0 direct endmap", LineFault::NoNumber),
+        ("1 4294967296 0 direct endmap", LineFault::NoNumber),
+        ("1  1 0 direct endmap", LineFault::NoNumber),
+        ("1 1 0 direct endmap ", LineFault::WordsLeftOver),
+        ("1 1 0 direct endmap endmap", LineFault::WordsLeftOver),
+        ("1 1 0 direct", LineFault::MissingWord),
+        ("1 1 0 indirect endmap", LineFault::NoOrigin),
+        ("1 1 0 direct end", LineFault::NoEvent),
+        ("1 1 0 direct map 0 text -", LineFault::NoTag),
+        ("1 1 0 direct map 0 none +", LineFault::NoRawTag),
+        ("1 1 0 direct scalar 0 none - bold 0 1", LineFault::NoStyle),
+    ];
+    for (line, fault) in lines {
+        match read_record(line) {
+            Ok(_) => return Err(Fail::new(line)),
+            Err(why) => check_eq(why, fault).note(line)?,
+        }
+    }
+    Ok(())
 }

@@ -1,4 +1,7 @@
 -- Three numbers in a row.
+use mathlib.Core.Path.{ap, _∙_}
+use mathlib.Core.List.{_∷_}
+use Rattle.std.specs.Written.{decimal}
 use Rattle.tape_file.specs.Lines.{locationWords, SmallLocation}
 use Rattle.tape_file.proofs.Parsing.{exit}
 use Rattle.tape_file.proofs.read.location.Needs as need
@@ -31,7 +34,7 @@ returns c =
     let d = c .in-Continue-source-id .ensures tt in
     record {
       fits = (a .fits, b .fits, d .fits);
-      front = cc;
+      front = a .front ∙ ap (λ l. decimal (c .in-Continue-line .line) ∷ l) (b .front ∙ ap (λ l. decimal (c .in-Continue-column .column) ∷ l) (d .front));
       only = λ y s h e.
           let p = a .only (y .line) _ (h .0) e in
           let q = b .only (y .column) _ (h .1) (p .1) in

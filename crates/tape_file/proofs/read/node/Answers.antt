@@ -1,5 +1,5 @@
 -- A number, a tag and a raw tag in a row.
-use Rattle.tape_file.specs.Reading.{headWords, SmallHead}
+use Rattle.tape_file.specs.Heads.{headWords, SmallHead}
 use Rattle.tape_file.proofs.Parsing.{exit}
 use Rattle.tape_file.proofs.read.node.Needs as need
 

@@ -1,4 +1,7 @@
 -- Two numbers in a row.
+use mathlib.Core.Path.{ap, _∙_}
+use mathlib.Core.List.{_∷_}
+use Rattle.std.specs.Written.{decimal}
 use Rattle.tape_file.specs.Lines.{placeWords, SmallPlace}
 use Rattle.tape_file.proofs.Parsing.{exit}
 use Rattle.tape_file.proofs.read.place.Needs as need
@@ -22,7 +25,7 @@ returns c =
     let b = c .in-Continue-len .ensures tt in
     record {
       fits = (a .fits, b .fits);
-      front = cc;
+      front = a .front ∙ ap (λ l. decimal (c .in-Continue-start .start) ∷ l) (b .front);
       only = λ y s h e.
           let p = a .only (y .start) _ (h .0) e in
           let q = b .only (y .len) _ (h .1) (p .1) in

@@ -2,7 +2,7 @@
 use mathlib.Core.Path.{refl, sym, ap, _∙_}
 use mathlib.Core.List.{_∷_, _++_, append-assoc}
 use Rattle.tape_file.specs.Lines.{eventWords, styleWord, placeWords, SmallEvent}
-use Rattle.tape_file.specs.Reading.{headWords}
+use Rattle.tape_file.specs.Heads.{headWords}
 use Rattle.tape_file.proofs.Leading.{scalar-leads}
 use Rattle.tape_file.proofs.Parsing.{exit, led-lacks, led-whole}
 use Rattle.tape_file.proofs.read.scalar.Needs as need
