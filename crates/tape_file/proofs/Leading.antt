@@ -67,25 +67,25 @@ abbrev pub bodyWords : Body → List (List ℕ)
 bodyWords b = headWords (b .0) ++ (styleWord (b .1) ∷ placeWords (b .2))
 
 abbrev pub SmallBody : Body → Type 0
-SmallBody b = Small (b .0 .anchor) × SmallRaw (b .0 .«raw_tag») × SmallPlace (b .2)
+SmallBody b = Small (b .0 .0) × SmallRaw (b .0 .2) × SmallPlace (b .2)
 
 abbrev scalar : Body → Event
-scalar b = Scalar (b .0 .anchor) (b .0 .tag) (b .0 .«raw_tag») (b .1) (b .2)
+scalar b = Scalar (b .0 .0) (b .0 .1) (b .0 .2) (b .1) (b .2)
 
 abbrev seq : Head → Event
-seq h = SeqStart (h .anchor) (h .tag) (h .«raw_tag»)
+seq h = SeqStart (h .0) (h .1) (h .2)
 
 abbrev map : Head → Event
-map h = MapStart (h .anchor) (h .tag) (h .«raw_tag»)
+map h = MapStart (h .0) (h .1) (h .2)
 
 abbrev EventBy : List ℕ → Event → Type 0
 EventBy w y = At w (codes "scalar") (Made scalar y) (At w (codes "seq") (Made seq y) (At w (codes "map") (Made map y) (At w (codes "alias") (Made RecursiveAlias y) (Unit {0}))))
 
 event-by : (y : Event) (s : List (List ℕ)) → EventBy (first (eventWords y ++ s)) y
-event-by (Scalar a t o k v) s = ((record { anchor = a; tag = t; «raw_tag» = o }, k, v), refl)
-event-by (SeqStart a t o) s = (record { anchor = a; tag = t; «raw_tag» = o }, refl)
+event-by (Scalar a t o k v) s = (((a, t, o), k, v), refl)
+event-by (SeqStart a t o) s = ((a, t, o), refl)
 event-by SeqEnd s = tt
-event-by (MapStart a t o) s = (record { anchor = a; tag = t; «raw_tag» = o }, refl)
+event-by (MapStart a t o) s = ((a, t, o), refl)
 event-by MapEnd s = tt
 event-by (RecursiveAlias a) s = (a, refl)
 

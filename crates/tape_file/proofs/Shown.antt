@@ -42,7 +42,7 @@ record-shown r =
     ∙ ap (λ (l : List ℕ). spaced (locationWords (r .location)) ++ (32 ∷ l)) (spaced-append (originWords (r .origin)) (eventWords (r .event)) (origin-some (r .origin)) (event-some (r .event))))
 
 -- u is the word for the style
-pub scalar-shown : (h : Head) (s : ScalarStyle) (v : Place) (u : List ℕ) (e : Event) → u ≡ styleWord s → e ≡ Scalar (h .anchor) (h .tag) (h .«raw_tag») s v
+pub scalar-shown : (h : Head) (s : ScalarStyle) (v : Place) (u : List ℕ) (e : Event) → u ≡ styleWord s → e ≡ Scalar (h .0) (h .1) (h .2) s v
     → codes "scalar " ++ (spaced (headWords h) ++ (32 ∷ (u ++ (32 ∷ spaced (placeWords v))))) ≡ spaced (eventWords e)
 scalar-shown h s v u e p q =
     (λ i. codes "scalar " ++ (spaced (headWords h) ++ (32 ∷ (p i ++ (32 ∷ spaced (placeWords v))))))

@@ -5,7 +5,7 @@ use Rattle.tape_file.specs.Lines.{nodeWords, Small, SmallRaw}
 use Rattle.tape_file.specs.declared.head.Head.{Head}
 
 abbrev pub headWords : Head → List (List ℕ)
-headWords h = nodeWords (h .anchor) (h .tag) (h .«raw_tag»)
+headWords h = nodeWords (h .0) (h .1) (h .2)
 
 abbrev pub SmallHead : Head → Type 0
-SmallHead h = Small (h .anchor) × SmallRaw (h .«raw_tag»)
+SmallHead h = Small (h .0) × SmallRaw (h .2)

@@ -71,11 +71,7 @@ impl fmt::Display for Line<Head> as HeadLine {
     ghost shown = { λ x. Some (spaced (headWords (x .0))) };
 
     fn fmt<W: fmt::Write>(&self, f: &mut fmt::Formatter<W>) -> fmt::Result {
-        let Head {
-            anchor,
-            tag,
-            raw_tag,
-        } = self.0;
+        let Head(anchor, tag, raw_tag) = self.0;
         write!(f, "{anchor} {} {}", tag_word(tag), Line(raw_tag))
     }
 }
@@ -92,40 +88,20 @@ impl fmt::Display for Line<Event> as EventLine {
                 style,
                 value,
             } => {
-                let head = Line(Head {
-                    anchor,
-                    tag,
-                    raw_tag,
-                });
+                let head = Line(Head(anchor, tag, raw_tag));
                 write!(f, "scalar {head} {} {}", style_word(style), Line(value))
             }
             Event::SeqStart {
                 anchor,
                 tag,
                 raw_tag,
-            } => write!(
-                f,
-                "seq {}",
-                Line(Head {
-                    anchor,
-                    tag,
-                    raw_tag
-                })
-            ),
+            } => write!(f, "seq {}", Line(Head(anchor, tag, raw_tag))),
             Event::SeqEnd => f.write_str("endseq"),
             Event::MapStart {
                 anchor,
                 tag,
                 raw_tag,
-            } => write!(
-                f,
-                "map {}",
-                Line(Head {
-                    anchor,
-                    tag,
-                    raw_tag
-                })
-            ),
+            } => write!(f, "map {}", Line(Head(anchor, tag, raw_tag))),
             Event::MapEnd => f.write_str("endmap"),
             Event::RecursiveAlias { anchor } => write!(f, "alias {anchor}"),
         }

@@ -76,11 +76,7 @@ fn event(words: &mut Words) -> Result<Event, LineFault>
     match words.next()? {
         "scalar" => scalar(words),
         "seq" => {
-            let Head {
-                anchor,
-                tag,
-                raw_tag,
-            } = node(words)?;
+            let Head(anchor, tag, raw_tag) = node(words)?;
             Ok(Event::SeqStart {
                 anchor,
                 tag,
@@ -89,11 +85,7 @@ fn event(words: &mut Words) -> Result<Event, LineFault>
         }
         "endseq" => Ok(Event::SeqEnd),
         "map" => {
-            let Head {
-                anchor,
-                tag,
-                raw_tag,
-            } = node(words)?;
+            let Head(anchor, tag, raw_tag) = node(words)?;
             Ok(Event::MapStart {
                 anchor,
                 tag,
@@ -112,11 +104,7 @@ fn event(words: &mut Words) -> Result<Event, LineFault>
 fn scalar(words: &mut Words) -> Result<Event, LineFault>
     ensures { λ r. ⌜ Parses eventWords SmallEvent (codes "scalar" ∷ left (now (words .entry) .rest)) r (left (now (words .exit) .rest)) ⌝ }
 {
-    let Head {
-        anchor,
-        tag,
-        raw_tag,
-    } = node(words)?;
+    let Head(anchor, tag, raw_tag) = node(words)?;
     let style = style(words)?;
     let value = place(words)?;
     Ok(Event::Scalar {
@@ -134,11 +122,7 @@ fn node(words: &mut Words) -> Result<Head, LineFault>
     let anchor = number(words)?;
     let tag = tag(words)?;
     let raw_tag = raw_tag(words)?;
-    Ok(Head {
-        anchor,
-        tag,
-        raw_tag,
-    })
+    Ok(Head(anchor, tag, raw_tag))
 }
 
 fn raw_tag(words: &mut Words) -> Result<Option<Place>, LineFault>
