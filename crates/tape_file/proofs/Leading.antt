@@ -1,6 +1,6 @@
 -- Each origin, raw tag and event by the word that it begins with.
 use mathlib.Core.Path.{_≡_, refl, sym, ap, subst}
-use mathlib.Core.Bool.{Bool, true, false, cond}
+use mathlib.Core.Bool.{cond}
 use mathlib.Core.List.{List, [], _∷_, _++_}
 use Prim.Native.Nat.{ℕ}
 use lib.Chars.{codes}
@@ -8,15 +8,13 @@ use Rattle.std.specs.Written.{decimal}
 use Rattle.std.specs.declared.option.Option.{Option}
 use Rattle.std.specs.declared.option.Option.the-variants.{Some, None}
 use Rattle.std.specs.shelf.Text.{sameBytes}
-use Rattle.records.specs.declared.location.Location.{Location}
 use Rattle.records.specs.declared.location.NodeOrigin.{NodeOrigin}
 use Rattle.records.specs.declared.location.NodeOrigin.the-variants.{Direct, Alias, Merge}
 use Rattle.records.specs.declared.record.Event.{Event}
 use Rattle.records.specs.declared.record.Event.the-variants.{Scalar, SeqStart, SeqEnd, MapStart, MapEnd, RecursiveAlias}
 use Rattle.records.specs.declared.record.Place.{Place}
 use Rattle.records.specs.declared.record.ScalarStyle.{ScalarStyle}
-use Rattle.records.specs.declared.tags.SfTag.{SfTag}
-use Rattle.tape_file.specs.Lines.{locationWords, originWords, placeWords, rawWords, nodeWords, eventWords, styleWord, Small, SmallLocation, SmallOrigin, SmallPlace, SmallRaw, SmallEvent}
+use Rattle.tape_file.specs.Lines.{locationWords, originWords, placeWords, rawWords, eventWords, styleWord, Small, SmallLocation, SmallOrigin, SmallPlace, SmallRaw, SmallEvent}
 use Rattle.tape_file.specs.Heads.{headWords, SmallHead}
 use Rattle.tape_file.specs.declared.head.Head.{Head}
 use Rattle.tape_file.proofs.Parsing.{Leads}

@@ -1,19 +1,17 @@
 -- Decimal numerals: which texts `decimal` writes, and that `parse` reads them.
-use mathlib.Core.Path.{_≡_, refl, sym, ap, subst, _∙_}
+use mathlib.Core.Path.{_≡_, sym, ap, subst, _∙_}
 use mathlib.Core.Logic.{inl, inr}
-use mathlib.Core.List.{List, [], _∷_}
-use Prim.Native.Nat.{ℕ, _^_, _<_, _≤_}
+use mathlib.Core.List.{List}
+use Prim.Native.Nat.{ℕ, _^_, _<_}
 use native.Mathlib.Omega.{arith}
-use borrow.Author.Needs.{needs}
 use lib.Chars.{codes}
 use lib.ListN.{length, getD}
-use Rattle.std.proofs.shelf.Decimals.{decimal-digit, decimal-some, decimal-value, digits-decimal, first-decimal, parses-back}
+use Rattle.std.proofs.shelf.Decimals.{decimal-digit, decimal-some, decimal-value, digits-decimal, first-decimal}
 use Rattle.std.proofs.shelf.Numerals.{Numerals, numerals-by-value, tells-digits, not-in-digits, parse-plain}
 use Rattle.std.proofs.shelf.Tests.{cases-lt}
 use Rattle.std.specs.Reads.{Digits, ReadsUnsigned, value}
 use Rattle.std.specs.Written.{decimal}
-use Rattle.std.specs.declared.result.Result.{Result}
-use Rattle.std.specs.declared.result.Result.the-variants.{Ok, Err}
+use Rattle.std.specs.declared.result.Result.the-variants.{Ok}
 
 own : Numerals (Digits 10) (value 10)
 own = numerals-by-value _ tells-digits

@@ -1,15 +1,13 @@
 -- The lines of records and of scalars, piece by piece as they are shown.
-use mathlib.Core.Path.{_≡_, refl, sym, ap, subst, _∙_}
-use mathlib.Core.List.{List, [], _∷_, _++_}
+use mathlib.Core.Path.{_≡_, sym, ap, subst, _∙_}
+use mathlib.Core.List.{List, _∷_, _++_}
 use Prim.Native.Nat.{ℕ, _<_}
 use native.Mathlib.Omega.{arith}
 use borrow.Author.Needs.{needs}
 use lib.Chars.{codes}
 use lib.ListN.{length, length-append}
-use Rattle.std.specs.Written.{Put, decimal}
+use Rattle.std.specs.Written.{Put}
 use Rattle.std.specs.declared.fmt.Formatter.{Formatter}
-use Rattle.std.specs.declared.option.Option.{Option}
-use Rattle.std.specs.declared.option.Option.the-variants.{Some, None}
 use Rattle.records.specs.declared.location.NodeOrigin.{NodeOrigin}
 use Rattle.records.specs.declared.location.NodeOrigin.the-variants.{Direct, Alias, Merge}
 use Rattle.records.specs.declared.record.Event.{Event}
@@ -18,8 +16,8 @@ use Rattle.records.specs.declared.record.Place.{Place}
 use Rattle.records.specs.declared.record.Record.{Record}
 use Rattle.records.specs.declared.record.ScalarStyle.{ScalarStyle}
 use Rattle.tape_file.specs.Heads.{headWords}
-use Rattle.tape_file.specs.Lines.{tagWord, styleWord, locationWords, originWords, placeWords, rawWords, eventWords, recordWords, written}
-use Rattle.tape_file.specs.Spaces.{spaced, onward}
+use Rattle.tape_file.specs.Lines.{styleWord, locationWords, originWords, placeWords, eventWords, written}
+use Rattle.tape_file.specs.Spaces.{spaced}
 use Rattle.tape_file.specs.declared.head.Head.{Head}
 use Rattle.tape_file.proofs.Spacing.{spaced-append}
 

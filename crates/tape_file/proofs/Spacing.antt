@@ -8,7 +8,7 @@ use native.Mathlib.Omega.{arith}
 use borrow.Author.Needs.{needs}
 use lib.Dec.{eqb}
 use lib.ListN.{length, getD}
-use Rattle.std.proofs.shelf.Tests.{ne-eqb, eqb-true, and-parts, and-from, cases-bool, not-true}
+use Rattle.std.proofs.shelf.Tests.{ne-eqb, eqb-true, and-parts, cases-bool, not-true}
 use Rattle.tape_file.specs.Spaces.{spaced, onward, lengthened, split}
 
 pub spaced-append : (vs ws : List (List ℕ)) → 0 < length vs → 0 < length ws → spaced (vs ++ ws) ≡ spaced vs ++ (32 ∷ spaced ws)

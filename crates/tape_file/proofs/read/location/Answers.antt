@@ -1,5 +1,5 @@
 -- Three numbers in a row.
-use mathlib.Core.Path.{ap, _∙_}
+use mathlib.Core.Path.{_∙_}
 use mathlib.Core.List.{_∷_}
 use Rattle.std.specs.Written.{decimal}
 use Rattle.tape_file.specs.Lines.{locationWords, SmallLocation}
@@ -34,7 +34,7 @@ returns c =
     let d = c .in-Continue-source-id .ensures tt in
     record {
       fits = (a .fits, b .fits, d .fits);
-      front = a .front ∙ ap (λ l. decimal (c .in-Continue-line .line) ∷ l) (b .front ∙ ap (λ l. decimal (c .in-Continue-column .column) ∷ l) (d .front));
+      front = a .front ∙ (λ i. decimal (c .in-Continue-line .line) ∷ (b .front ∙ (λ j. decimal (c .in-Continue-column .column) ∷ d .front j)) i);
       only = λ y s h e.
           let p = a .only (y .line) _ (h .0) e in
           let q = b .only (y .column) _ (h .1) (p .1) in

@@ -1,5 +1,5 @@
 -- Two numbers in a row.
-use mathlib.Core.Path.{ap, _∙_}
+use mathlib.Core.Path.{_∙_}
 use mathlib.Core.List.{_∷_}
 use Rattle.std.specs.Written.{decimal}
 use Rattle.tape_file.specs.Lines.{placeWords, SmallPlace}
@@ -25,7 +25,7 @@ returns c =
     let b = c .in-Continue-len .ensures tt in
     record {
       fits = (a .fits, b .fits);
-      front = a .front ∙ ap (λ l. decimal (c .in-Continue-start .start) ∷ l) (b .front);
+      front = a .front ∙ (λ i. decimal (c .in-Continue-start .start) ∷ b .front i);
       only = λ y s h e.
           let p = a .only (y .start) _ (h .0) e in
           let q = b .only (y .len) _ (h .1) (p .1) in

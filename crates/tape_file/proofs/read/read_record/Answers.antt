@@ -1,5 +1,5 @@
 -- A line is a record's where its words are, and none is left.
-use mathlib.Core.Path.{_≡_, sym, ap, subst}
+use mathlib.Core.Path.{sym, ap, subst}
 use Prim.Native.Nat.{_<_}
 use lib.ListN.{length}
 use Rattle.tape_file.specs.Reading.{left}

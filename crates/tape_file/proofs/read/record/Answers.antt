@@ -1,5 +1,5 @@
 -- A location, an origin and an event in a row.
-use mathlib.Core.Path.{sym, ap, _∙_}
+use mathlib.Core.Path.{sym, _∙_}
 use mathlib.Core.List.{_++_, append-assoc}
 use Rattle.tape_file.specs.Lines.{locationWords, originWords, eventWords, recordWords, SmallRecord}
 use Rattle.tape_file.proofs.Parsing.{exit}
@@ -33,7 +33,7 @@ returns c =
     let d = c .in-Continue-event .ensures tt in
     record {
       fits = (a .fits, b .fits, d .fits);
-      front = a .front ∙ ap (λ l. locationWords (c .in-Continue-location .location) ++ l) (b .front ∙ ap (λ l. originWords (c .in-Continue-origin .origin) ++ l) (d .front) ∙ sym (append-assoc (originWords (c .in-Continue-origin .origin)) (eventWords (c .in-Continue-event .event)) _));
+      front = a .front ∙ (λ i. locationWords (c .in-Continue-location .location) ++ (b .front ∙ (λ j. originWords (c .in-Continue-origin .origin) ++ d .front j) ∙ sym (append-assoc (originWords (c .in-Continue-origin .origin)) (eventWords (c .in-Continue-event .event)) _)) i);
       only = λ y s h e.
           let p = a .only (y .location) _ (h .0) e in
           let q = b .only (y .origin) (eventWords (y .event) ++ s) (h .1) (p .1 ∙ append-assoc (originWords (y .origin)) (eventWords (y .event)) s) in

@@ -1,5 +1,5 @@
 -- A node's head, a style and a place in a row, after the word `scalar`.
-use mathlib.Core.Path.{refl, sym, ap, _∙_}
+use mathlib.Core.Path.{refl, sym, _∙_}
 use mathlib.Core.List.{_∷_, _++_, append-assoc}
 use Rattle.tape_file.specs.Lines.{eventWords, styleWord, placeWords, SmallEvent}
 use Rattle.tape_file.specs.Heads.{headWords}
@@ -39,7 +39,7 @@ returns c =
     let d = c .in-Continue-value .ensures tt in
     led-whole scalar-leads _ _ _ refl refl (c .in-Continue-anchor .field-0, c .in-Continue-style .style, c .in-Continue-value .value) _ (record {
       fits = (a .fits .0, a .fits .1, d .fits);
-      front = a .front ∙ ap (λ l. headWords (c .in-Continue-anchor .field-0) ++ l) (b .front ∙ ap (λ l. styleWord (c .in-Continue-style .style) ∷ l) (d .front)) ∙ sym (append-assoc (headWords (c .in-Continue-anchor .field-0)) (styleWord (c .in-Continue-style .style) ∷ placeWords (c .in-Continue-value .value)) _);
+      front = a .front ∙ (λ i. headWords (c .in-Continue-anchor .field-0) ++ (b .front ∙ (λ j. styleWord (c .in-Continue-style .style) ∷ d .front j)) i) ∙ sym (append-assoc (headWords (c .in-Continue-anchor .field-0)) (styleWord (c .in-Continue-style .style) ∷ placeWords (c .in-Continue-value .value)) _);
       only = λ y s h e.
           let p = a .only (y .0) _ (h .0, h .1) (e ∙ append-assoc (headWords (y .0)) (styleWord (y .1) ∷ placeWords (y .2)) s) in
           let q = b .only (y .1) _ tt (p .1) in

@@ -33,5 +33,5 @@ returns-in-Ok c =
 pub returns-in-Err : need.returns-in-Err
 returns-in-Err c y h e =
     let k = parses-back 32 y (c .args .word .now) (c .parse .result) h (omega arith) e (c .parse .ensures .reads .0) in
-    let z : _≡_ {A = ℕ} 0 1 = cc (k, c .in-Err .is) in
+    let z : _≡_ {A = ℕ} 0 1 = cc in
     omega arith
