@@ -1,5 +1,6 @@
 // The tape file, line by line.
-ghost use Rattle.creel.specs.Files.{Says};
+ghost use Rattle.std.specs.Orderings.{Decides};
+ghost use Rattle.creel.specs.Files.{Says, Silent};
 use records::record::Record;
 use std::alloc::AllocError;
 use std::alloc::Global;
@@ -26,14 +27,21 @@ impl<T: Drop> From<Refused<T>> for FileFault as FromRefused {
     }
 }
 
+fn is_silent(line: &str) -> bool
+    ensures { λ r. ⌜ Decides r (Silent (now (line .entry))) ⌝ }
+{
+    let bytes = line.as_bytes();
+    bytes.len() == 0 || bytes[0] == b'#'
+}
+
 /// The record that a line says, nothing where the line is empty or begins with `#`, or else why it says none.
 pub fn read_line(line: &str) -> Result<Option<Record>, LineFault>
     ensures { λ r. ⌜ Says (now (line .entry)) r ⌝ }
 {
-    match line.as_bytes() {
-        [] | [b'#', ..] => Ok(None),
-        _ => Ok(Some(read_record(line)?)),
+    if is_silent(line) {
+        return Ok(None);
     }
+    Ok(Some(read_record(line)?))
 }
 
 /// The records that the lines of a file say, in order.
