@@ -4,6 +4,7 @@ use mathlib.Core.List.{List, [], _∷_, _++_}
 use Prim.Native.Nat.{ℕ}
 use lib.Dec.{eqb}
 
+-- the line that the word w and the words after it make
 abbrev pub onward : List ℕ → List (List ℕ) → List ℕ
 onward w [] = w
 onward w (v ∷ vs) = w ++ (32 ∷ onward v vs)
@@ -13,6 +14,7 @@ abbrev pub spaced : List (List ℕ) → List ℕ
 spaced [] = []
 spaced (w ∷ ws) = onward w ws
 
+-- the words, with one more byte in front of the first
 abbrev pub lengthened : ℕ → List (List ℕ) → List (List ℕ)
 lengthened c [] = (c ∷ []) ∷ []
 lengthened c (w ∷ ws) = (c ∷ w) ∷ ws

@@ -108,6 +108,7 @@ impl fmt::Display for Line<Event> as EventLine {
     }
 }
 
+/// The whole line, without its line end.
 pub impl fmt::Display for Line<Record> as RecordLine {
     ghost shown = { λ x. Some (written (x .0)) };
 

@@ -19,6 +19,7 @@ pub fn reads_back(heap: Global, record: Record) -> Result<Result<Record, LineFau
     Ok(read_line_of(record, line.as_str()))
 }
 
+// A record's own line is read as the record.
 fn read_line_of(record: Record, line: &str) -> Result<Record, LineFault>
     requires { ⌜ now line ≡ written «record» ⌝ }
     ensures { λ r. ⌜ r ≡ Ok «record» ⌝ }
