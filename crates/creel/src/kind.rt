@@ -33,7 +33,10 @@ fn is_of(ev: Ev, kind: Kind) -> bool
 {
     match ev {
         Ev::Scalar {
-            value, tag, style, ..
+            value,
+            tag,
+            style,
+            ..
         } => match kind {
             Kind::Scalar => true,
             Kind::Integer => reads_as_integer(tag, value, style),

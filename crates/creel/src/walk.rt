@@ -17,11 +17,7 @@ pub struct Walk {
 
 /// Takes the events of a tape one after another, recursive aliases as they are, and counts those of a kind. A tape or a
 /// text that is too long is refused.
-pub fn walk_to_close<'a>(
-    text: &'a [u8],
-    tape: &'a [Record],
-    kind: Kind,
-) -> Result<Walk, Refusal>
+pub fn walk_to_close<'a>(text: &'a [u8], tape: &'a [Record], kind: Kind) -> Result<Walk, Refusal>
     ensures { λ r. ⌜ Walked kind (now (text .entry)) (now (tape .entry)) r ⌝ }
 {
     let mut reader = TapeReader::new(text, tape, &[])?;

@@ -48,7 +48,13 @@ pub impl fmt::Display for InWords as RefusalInWords {
             location,
             offset,
         } = self.0;
-        write!(f, "refusal {} ({}): {}", reason.number(), layer_word(reason.layer()), complaint(reason))?;
+        write!(
+            f,
+            "refusal {} ({}): {}",
+            reason.number(),
+            layer_word(reason.layer()),
+            complaint(reason)
+        )?;
         match reason {
             Reason::PlaceOutsideText => write!(f, ", at record {offset}"),
             _ => {

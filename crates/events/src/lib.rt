@@ -2,5 +2,3 @@ pub mod ev;
 pub mod resolving;
 pub mod source;
 pub mod tape;
-#[cfg(test)]
-mod tests;

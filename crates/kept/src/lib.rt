@@ -4,5 +4,3 @@ pub mod instances;
 pub mod laws;
 pub mod list;
 pub mod pairing;
-#[cfg(test)]
-mod tests;

@@ -3,8 +3,6 @@ pub mod classes;
 pub mod integer;
 pub mod nulls;
 pub mod radix;
-#[cfg(test)]
-mod tests;
 pub mod theorems;
 pub mod trim;
 pub mod typed;

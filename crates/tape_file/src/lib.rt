@@ -19,6 +19,4 @@ pub mod read;
 pub mod round_trip;
 mod small;
 mod spelling;
-#[cfg(test)]
-mod tests;
 mod words;

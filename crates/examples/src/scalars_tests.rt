@@ -1,7 +1,7 @@
 // What the functions answer on examples.
-use crate::integer::parse_integer;
-use crate::nulls::scalar_is_nullish;
-use crate::trim::yaml_trim;
+use scalars::integer::parse_integer;
+use scalars::nulls::scalar_is_nullish;
+use scalars::trim::yaml_trim;
 use std::test::*;
 
 const SPELLINGS: [(&[u8], bool, u64); 8] = [

@@ -1,10 +1,4 @@
 // Lines as a person writes them, and as they should be refused.
-use crate::fault::LineFault;
-use crate::fault::LineFaultDebug;
-use crate::fault::LineFaultPartialEq;
-use crate::line::write_record;
-use crate::read::read_record;
-use crate::round_trip::reads_back;
 use records::location::Location;
 use records::location::NodeOrigin;
 use records::record::Event;
@@ -14,6 +8,12 @@ use records::record::RecordPartialEq;
 use records::record::ScalarStyle;
 use records::tags::SfTag;
 use std::test::*;
+use tape_file::fault::LineFault;
+use tape_file::fault::LineFaultDebug;
+use tape_file::fault::LineFaultPartialEq;
+use tape_file::line::write_record;
+use tape_file::read::read_record;
+use tape_file::round_trip::reads_back;
 
 fn reads_as(line: &str, record: Record) -> Result<(), Fail> {
     check(read_record(line)? == record)

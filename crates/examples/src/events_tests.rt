@@ -1,9 +1,9 @@
 // A tape read to its close, with and without deferral.
-use crate::ev::Ev;
-use crate::resolving::null_of;
-use crate::source::Events;
-use crate::tape::TapeEvents;
-use crate::tape::TapeReader;
+use events::ev::Ev;
+use events::resolving::null_of;
+use events::source::Events;
+use events::tape::TapeEvents;
+use events::tape::TapeReader;
 use records::location::Location;
 use records::location::LocationPartialEq;
 use records::location::NodeOrigin;

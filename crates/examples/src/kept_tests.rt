@@ -1,11 +1,11 @@
 // Kept lists of numbers and of pairs, by example.
-use crate::equality::Equality;
-use crate::instances::ByNumber;
-use crate::instances::ByParts;
-use crate::instances::NumberEquality;
-use crate::instances::PartsEquality;
-use crate::list::Kept;
-use crate::pairing::pair_off;
+use kept::equality::Equality;
+use kept::instances::ByNumber;
+use kept::instances::ByParts;
+use kept::instances::NumberEquality;
+use kept::instances::PartsEquality;
+use kept::list::Kept;
+use kept::pairing::pair_off;
 use std::test::*;
 
 // A list that holds `xs`, as far as there are places.
