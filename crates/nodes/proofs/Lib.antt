@@ -1,0 +1,4 @@
+pub mod Flats
+pub mod Sounds
+pub mod Readings
+pub mod Fits
