@@ -29,17 +29,17 @@ opened-push n (x ∷ xs) r = opened-push (opens n (x .event)) xs r
 
 module _ (l : Limits) where
   -- i events were taken, and d containers may still be opened
-  pub record Taken (d i : ℕ) (front : List Record) : Type 0 where
+  pub record Within (d i : ℕ) (front : List Record) : Type 0 where
     pub count : length front ≡ i
     pub short : i ≤ l .room
     pub inside : All (λ r. placed (l .text) (r .event) ≡ true) front
     pub low : (n : ℕ) → opened (take n front) ≤ l .deep
     pub level : opened front + d ≡ l .deep
 
-  pub none-taken : Taken (l .deep) 0 []
+  pub none-taken : Within (l .deep) 0 []
   none-taken = record { count = refl; short = omega arith; inside = tt; low = λ n. subst (λ x. opened x ≤ l .deep) (sym (take-nil n)) (omega arith); level = omega arith }
 
-  pub one-more : {d i : ℕ} {front : List Record} → Taken d i front → (r : Record) (c : ℕ) → i < l .room → placed (l .text) (r .event) ≡ true → opens (opened front) (r .event) + c ≡ l .deep → Taken c (i + 1) (front ++ r ∷ [])
+  pub one-more : {d i : ℕ} {front : List Record} → Within d i front → (r : Record) (c : ℕ) → i < l .room → placed (l .text) (r .event) ≡ true → opens (opened front) (r .event) + c ≡ l .deep → Within c (i + 1) (front ++ r ∷ [])
   one-more {d} {i} {front} s r c h p e =
       let o = opened-push 0 front r in
       record {
@@ -53,12 +53,12 @@ module _ (l : Limits) where
         level = omega arith;
       }
 
-  moved : {d d′ i i′ : ℕ} {xs ys : List Record} → Taken d i xs → d ≡ d′ → i ≡ i′ → xs ≡ ys → Taken d′ i′ ys
-  moved s a b c = subst₃ Taken a b c s
+  moved : {d d′ i i′ : ℕ} {xs ys : List Record} → Within d i xs → d ≡ d′ → i ≡ i′ → xs ≡ ys → Within d′ i′ ys
+  moved s a b c = subst₃ Within a b c s
 
   -- so is each event of a node that nothing bars
   mutual
-    pub node-taken : {d i : ℕ} {front : List Record} (t : Node) → Taken d i front → bars l d i t ≡ None → Taken d (i + size t) (front ++ flat t [])
+    pub node-taken : {d i : ℕ} {front : List Record} (t : Node) → Within d i front → bars l d i t ≡ None → Within d (i + size t) (front ++ flat t [])
     node-taken {d} {i} {front} (scalar k x) s h =
         let (a, b) = neither (slotAt l i k) _ h in
         one-more s (rec k (scalarEvent x)) d (slot-free l i k a) (place-lies l i k (scalarEvent x) b) (s .level)
@@ -77,14 +77,14 @@ module _ (l : Limits) where
         moved (pairs-taken ps s′ (omega arith) b) (omega (arith, f .low)) (omega arith) (append-assoc front _ _)
     node-taken (cut c) s h = let z : _≡_ {A = ℕ} 0 1 = cc in absurd (omega arith)
 
-    pub nodes-taken : {d i : ℕ} {front : List Record} (ns : Nodes) → Taken d i front → 0 < opened front → barss l d i ns ≡ None → Taken (suc d) (i + sizes ns) (front ++ flats ns [])
+    pub nodes-taken : {d i : ℕ} {front : List Record} (ns : Nodes) → Within d i front → 0 < opened front → barss l d i ns ≡ None → Within (suc d) (i + sizes ns) (front ++ flats ns [])
     nodes-taken {d} {i} {front} (none k) s o h = one-more s (rec k SeqEnd) (suc d) (slot-free l i k h) refl (omega (arith, s .level))
     nodes-taken {d} {i} {front} (more n ns) s o h =
         let (a, b) = neither (bars l d i n) _ h in
         let s′ = node-taken n s a in
         moved (nodes-taken ns s′ (omega (arith, s .level, s′ .level)) b) refl (omega arith) (sym (past-node front n (flats ns []) (passed l d i n a .whole)))
 
-    pub pairs-taken : {d i : ℕ} {front : List Record} (ps : Pairs) → Taken d i front → 0 < opened front → barsp l d i ps ≡ None → Taken (suc d) (i + sizep ps) (front ++ flatp ps [])
+    pub pairs-taken : {d i : ℕ} {front : List Record} (ps : Pairs) → Within d i front → 0 < opened front → barsp l d i ps ≡ None → Within (suc d) (i + sizep ps) (front ++ flatp ps [])
     pairs-taken {d} {i} {front} (done k) s o h = one-more s (rec k MapEnd) (suc d) (slot-free l i k h) refl (omega (arith, s .level))
     pairs-taken {d} {i} {front} (pair k v ps) s o h =
         let (a, h′) = neither (bars l d i k) _ h in

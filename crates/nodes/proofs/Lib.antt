@@ -5,3 +5,5 @@ pub mod Fits
 pub mod Gaps
 pub mod Levels
 pub mod Whys
+pub mod Taken
+pub mod Shifts

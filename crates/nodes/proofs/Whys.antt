@@ -28,7 +28,7 @@ use Rattle.nodes.proofs.Readings.{reads-unique, whole-reads}
 use Rattle.nodes.proofs.Fits.{slot-free, place-lies, start-free, passed, fits-barred}
 use Rattle.nodes.proofs.Gaps.{Spot, NodeGap, NodesGap, PairsGap, stops, filler, at-start, in-seq, in-dict, at-element, past-element, at-key, at-value, past-pair, past-node, begun, begun-with, never-begun}
 use Rattle.nodes.proofs.Gaps.Spot.{anywhere, before}
-use Rattle.nodes.proofs.Levels.{Taken, none-taken, one-more, node-taken}
+use Rattle.nodes.proofs.Levels.{Within, none-taken, one-more, node-taken}
 
 -- the first question that is answered with no
 no-from : (q : Bool) (x b : Bar) → cond q None (Some x) ≡ Some b → (q ≡ false) × (x ≡ b)
@@ -44,7 +44,7 @@ end-is-end seqEnd = refl
 end-is-end mapEnd = refl
 
 module _ (l : Limits) (es : List Record) where
-  so-far : {d i : ℕ} {front : List Record} → Taken l d i front → Begins front → SoFar l front
+  so-far : {d i : ℕ} {front : List Record} → Within l d i front → Begins front → SoFar l front
   so-far s b = record { begun = b; short = omega (arith, s .count, s .short); inside = s .inside; low = s .low }
 
   -- the events `front` were taken, and r is next, of a node
@@ -54,7 +54,7 @@ module _ (l : Limits) (es : List Record) where
     until : Begins front
     begins : Begins (front ++ r ∷ [])
 
-  module _ (d i : ℕ) (front : List Record) (s : Taken l d i front) (k : Mark) (e : Event) (x : Next front (rec k e)) (b : Bar) where
+  module _ (d i : ℕ) (front : List Record) (s : Within l d i front) (k : Mark) (e : Event) (x : Next front (rec k e)) (b : Bar) where
     why-slot : slotAt l i k ≡ Some b → Why l es b
     why-slot h =
         let (q, z) = no-from (ltb i (l .room)) (barAt RackFull k i) b h in
@@ -78,7 +78,7 @@ module _ (l : Limits) (es : List Record) where
         (λ y. ⊎-elim (λ z. why-place (y .0) z) (λ z. why-open t (y .0) (z .0) (z .1)) (either (placeAt l i k e) _ b (y .1)))
         (either (slotAt l i k) _ b h)
 
-  why-cut : (p : Spot) (d i : ℕ) (front : List Record) → NodeGap p front → Taken l d i front → (c : Cut) (r : List Record) → stops p (cut c) ≡ false → es ≡ front ++ flat (cut c) r → Why l es (cutOff l i c)
+  why-cut : (p : Spot) (d i : ℕ) (front : List Record) → NodeGap p front → Within l d i front → (c : Cut) (r : List Record) → stops p (cut c) ≡ false → es ≡ front ++ flat (cut c) r → Why l es (cutOff l i c)
   why-cut p d i front g s ended r o e =
       let q : es ≡ front = e ∙ append-nil front in
       subst (λ n. Why l es (record { why = l .closing; taken = n })) (ap length q ∙ s .count) (early (subst (SoFar l) (sym q) (so-far s (begun _ _ _ _ front g filler refl))))
@@ -87,7 +87,7 @@ module _ (l : Limits) (es : List Record) where
       (misplaced front (rec k (endEvent x)) t e (so-far s (begun _ _ _ _ front g filler refl)) (end-is-end x) (never-begun p front g k x t o))
 
   mutual
-    why-node : (t : Node) (p : Spot) (d i : ℕ) (front r : List Record) → NodeGap p front → Taken l d i front → stops p t ≡ false → Sound t → es ≡ front ++ flat t r → (b : Bar) → bars l d i t ≡ Some b → Why l es b
+    why-node : (t : Node) (p : Spot) (d i : ℕ) (front r : List Record) → NodeGap p front → Within l d i front → stops p t ≡ false → Sound t → es ≡ front ++ flat t r → (b : Bar) → bars l d i t ≡ Some b → Why l es b
     why-node (scalar k x) p d i front r g s o v e b h =
         let n : Next front (rec k (scalarEvent x)) = record { rest = r; is = e; until = begun _ _ _ _ front g filler refl; begins = begun-with _ _ _ _ front g (scalar k x) refl (rec k (scalarEvent x)) (g .behind) refl } in
         ⊎-elim (why-slot d i front s k (scalarEvent x) n b) (λ y. why-place d i front s k (scalarEvent x) n b (y .0) (y .1)) (either (slotAt l i k) _ b h)
@@ -108,7 +108,7 @@ module _ (l : Limits) (es : List Record) where
         (either (startAt l d i k (mapEvent x)) _ b h)
     why-node (cut c) p d i front r g s o v e b h = let q : cutOff l i c ≡ b = cc in subst (Why l es) q (why-cut p d i front g s c r o e)
 
-    why-nodes : (ns : Nodes) (d i : ℕ) (front r : List Record) → NodesGap front → Taken l d i front → Sounds ns → es ≡ front ++ flats ns r → (b : Bar) → barss l d i ns ≡ Some b → Why l es b
+    why-nodes : (ns : Nodes) (d i : ℕ) (front r : List Record) → NodesGap front → Within l d i front → Sounds ns → es ≡ front ++ flats ns r → (b : Bar) → barss l d i ns ≡ Some b → Why l es b
     why-nodes (none k) d i front r g s v e b h =
         let n : Next front (rec k SeqEnd) = record { rest = r; is = e; until = begun _ _ _ _ front g noNodes refl; begins = begun-with _ _ _ _ front g (none k) refl (rec k SeqEnd) (g .behind) refl } in
         why-slot d i front s k SeqEnd n b h
@@ -118,7 +118,7 @@ module _ (l : Limits) (es : List Record) where
         why-nodes ns d (i + size t) (front ++ flat t []) r (past-element front g t w) (node-taken l t s (y .0)) (sounds-behind t ns v w) (e ∙ past-node front t (flats ns r) w) b (y .1))
         (either (bars l d i t) _ b h)
 
-    why-pairs : (ps : Pairs) (d i : ℕ) (front r : List Record) → PairsGap front → Taken l d i front → Soundp ps → es ≡ front ++ flatp ps r → (b : Bar) → barsp l d i ps ≡ Some b → Why l es b
+    why-pairs : (ps : Pairs) (d i : ℕ) (front r : List Record) → PairsGap front → Within l d i front → Soundp ps → es ≡ front ++ flatp ps r → (b : Bar) → barsp l d i ps ≡ Some b → Why l es b
     why-pairs (done k) d i front r g s v e b h =
         let n : Next front (rec k MapEnd) = record { rest = r; is = e; until = begun _ _ _ _ front g noPairs refl; begins = begun-with _ _ _ _ front g (done k) refl (rec k MapEnd) (g .behind) refl } in
         why-slot d i front s k MapEnd n b h
