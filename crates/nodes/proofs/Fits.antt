@@ -1,8 +1,8 @@
 -- A node is barred by nothing exactly where it is whole and fits.
-use mathlib.Core.Path.{_≡_, refl, sym, ap, ap₂, _∙_}
+use mathlib.Core.Path.{_≡_, refl, ap₂}
 use mathlib.Core.Bool.{Bool, true, false, cond}
-use mathlib.Core.List.{List, [], _∷_}
-use Prim.Native.Nat.{ℕ, suc, _+_, _-_, _<_, _≤_}
+use mathlib.Core.List.{List, []}
+use Prim.Native.Nat.{ℕ, _+_, _-_, _<_, _≤_}
 use native.Mathlib.Omega.{arith}
 use lib.Dec.{ltb}
 use Rattle.std.specs.declared.option.Option.{Option}
@@ -17,7 +17,6 @@ use Rattle.nodes.specs.Tree.Node.{scalar, alias, seq, dict, cut}
 use Rattle.nodes.specs.Tree.Nodes.{none, more}
 use Rattle.nodes.specs.Tree.Pairs.{done, pair}
 use Rattle.nodes.specs.Reading.{Limits, Bar, orElse, slotAt, placeAt, openAt, startAt, bars, barss, barsp, Fits, Fitting}
-use Rattle.nodes.proofs.Flats.{size-some}
 
 -- questions that are answered with yes
 pub yes-from : (q : Bool) (b : Bar) → cond q None (Some b) ≡ None → q ≡ true

@@ -1,16 +1,16 @@
 -- The records of a node: how many they are, and what stands behind them.
-use mathlib.Core.Path.{_≡_, refl, sym, ap, _∙_}
-use mathlib.Core.Bool.{Bool, true, false}
+use mathlib.Core.Path.{_≡_, refl, ap, _∙_}
+use mathlib.Core.Bool.{true, false}
 use mathlib.Core.List.{List, [], _∷_, _++_}
-use mathlib.Core.Logic.{_⊎_, inl, inr, ⊎-elim}
-use Prim.Native.Nat.{ℕ, suc, _+_, _<_, _≤_}
+use mathlib.Core.Logic.{⊎-elim}
+use Prim.Native.Nat.{_+_, _<_}
 use native.Mathlib.Omega.{arith}
 use lib.ListN.{length, take, drop}
 use Rattle.std.proofs.shelf.Lists.{take-at, drop-at}
 use Rattle.std.proofs.shelf.Tests.{true≢false, false≢true, and-parts, and-cases}
 use Rattle.records.specs.declared.record.Event.the-variants.{RecursiveAlias}
 use Rattle.records.specs.declared.record.Record.{Record}
-use Rattle.nodes.specs.Tree.{Cut, Node, Nodes, Pairs, rec, scalarEvent, seqEvent, mapEvent, flat, flats, flatp, size, sizes, sizep, whole, wholes, wholep}
+use Rattle.nodes.specs.Tree.{Node, Nodes, Pairs, rec, scalarEvent, seqEvent, mapEvent, flat, flats, flatp, size, sizes, sizep, whole, wholes, wholep}
 use Rattle.nodes.specs.Tree.Node.{scalar, alias, seq, dict, cut}
 use Rattle.nodes.specs.Tree.Nodes.{none, more}
 use Rattle.nodes.specs.Tree.Pairs.{done, pair}

@@ -2,16 +2,15 @@
 use mathlib.Core.Path.{_≡_, refl, sym, ap, subst, _∙_}
 use mathlib.Core.Bool.{Bool, true, false}
 use mathlib.Core.List.{List, [], _∷_, _++_, append-assoc}
-use Prim.Native.Nat.{ℕ}
-use Rattle.std.proofs.shelf.Tests.{true≢false, both-ways, and-from, and-left, and-right}
+use Rattle.std.proofs.shelf.Tests.{both-ways, and-from, and-left, and-right}
 use Rattle.records.specs.declared.record.Record.{Record}
 use Rattle.records.specs.Blank.{blank}
-use Rattle.nodes.specs.Tree.{Mark, Head, End, Cut, Node, Nodes, Pairs, rec, markOf, seqEvent, mapEvent, endEvent, flat, flats, flatp, whole, wholes, wholep, cutAt, noNodes, noPairs, Sound, Sounds, Soundp, Reads}
+use Rattle.nodes.specs.Tree.{Mark, Head, End, Node, Nodes, Pairs, rec, markOf, seqEvent, mapEvent, endEvent, flat, flats, flatp, whole, wholes, wholep, cutAt, noNodes, noPairs, Sound, Sounds, Soundp, Reads}
 use Rattle.nodes.specs.Tree.End.{seqEnd, mapEnd}
 use Rattle.nodes.specs.Tree.Cut.{ended, stray}
-use Rattle.nodes.specs.Tree.Node.{scalar, alias, seq, dict, cut}
-use Rattle.nodes.specs.Tree.Nodes.{none, more}
-use Rattle.nodes.specs.Tree.Pairs.{done, pair}
+use Rattle.nodes.specs.Tree.Node.{alias, seq, dict, cut}
+use Rattle.nodes.specs.Tree.Nodes.{more}
+use Rattle.nodes.specs.Tree.Pairs.{pair}
 use Rattle.nodes.specs.Reading.{Begins}
 use Rattle.nodes.proofs.Flats.{flat-append, flat-broken}
 use Rattle.nodes.proofs.Sounds.{sounds-from, sounds-cut, soundp-from, soundp-cut-value, soundp-cut-key, whole-uncut, whole-sound}
@@ -125,13 +124,10 @@ module _ (front : List Record) (g : PairsGap front) where
         (u, p, x, e ∙ past-node front k (flat v (flatp ps [])) w ∙ past-node (front ++ flat k []) v (flatp ps []) z);
   }
 
--- events before a gap begin a node, and so they do with the first event of what fills it
-module _ (X : Type 0) (unbroken : X → Bool) (Ok : X → Type 0) (flat′ : X → List Record → List Record) (front : List Record) (g : Gap X unbroken Ok flat′ front) (x : X) (w : unbroken x ≡ true) where
-  pub begun : Begins front
-  begun = let (u, v, e) = g .filled x w in (u, flat′ x (g .behind), v, e)
-
-  pub begun-with : (r : Record) (rest : List Record) → flat′ x (g .behind) ≡ r ∷ rest → Begins (front ++ r ∷ [])
-  begun-with r rest q = let (u, v, e) = g .filled x w in (u, rest, v, e ∙ ap (λ y. front ++ y) q ∙ sym (append-assoc front _ _))
+-- events before a gap begin a node with the first event of what fills it
+pub begun-with : (X : Type 0) (unbroken : X → Bool) (Ok : X → Type 0) (flat′ : X → List Record → List Record) (front : List Record) (g : Gap X unbroken Ok flat′ front) (x : X)
+    → unbroken x ≡ true → (r : Record) (rest : List Record) → flat′ x (g .behind) ≡ r ∷ rest → Begins (front ++ r ∷ [])
+begun-with X unbroken Ok flat′ front g x w r rest q = let (u, v, e) = g .filled x w in (u, rest, v, e ∙ ap (λ y. front ++ y) q ∙ sym (append-assoc front _ _))
 
 -- an end that is out of place stays so, whatever comes behind it
 stops-stray : (s : Spot) (k : Mark) (e : End) (q r : List Record) → stops s (cut (stray k e q)) ≡ false → stops s (cut (stray k e r)) ≡ false

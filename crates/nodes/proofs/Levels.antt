@@ -19,11 +19,11 @@ use Rattle.nodes.specs.Tree.{Node, Nodes, Pairs, rec, scalarEvent, seqEvent, m
 use Rattle.nodes.specs.Tree.Node.{scalar, alias, seq, dict, cut}
 use Rattle.nodes.specs.Tree.Nodes.{none, more}
 use Rattle.nodes.specs.Tree.Pairs.{done, pair}
-use Rattle.nodes.specs.Reading.{Limits, opens, openedFrom, opened, slotAt, placeAt, startAt, bars, barss, barsp}
+use Rattle.nodes.specs.Reading.{Limits, opens, openedFrom, opened, slotAt, startAt, bars, barss, barsp}
 use Rattle.nodes.proofs.Fits.{neither, slot-free, place-lies, start-free, passed}
 use Rattle.nodes.proofs.Gaps.{past-node}
 
-opened-push : (n : ℕ) (xs : List Record) (r : Record) → openedFrom n (xs ++ r ∷ []) ≡ opens (openedFrom n xs) (r .event)
+pub opened-push : (n : ℕ) (xs : List Record) (r : Record) → openedFrom n (xs ++ r ∷ []) ≡ opens (openedFrom n xs) (r .event)
 opened-push n [] r = refl
 opened-push n (x ∷ xs) r = opened-push (opens n (x .event)) xs r
 

@@ -7,3 +7,4 @@ pub mod Levels
 pub mod Whys
 pub mod Taken
 pub mod Shifts
+pub mod Reasons

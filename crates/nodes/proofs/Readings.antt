@@ -1,16 +1,16 @@
 -- The one tree that some events read as, and that no other does.
 use mathlib.Core.Path.{_≡_, refl, sym, ap, ap₂, subst, _∙_}
-use mathlib.Core.Bool.{Bool, true, false, cond}
+use mathlib.Core.Bool.{true, false, cond}
 use mathlib.Core.List.{List, [], _∷_}
 use mathlib.Core.Logic.{_⊎_, inl, inr, ⊎-elim}
-use Prim.Native.Nat.{ℕ, zero, suc, _+_, _*_, _<_, _≤_}
+use Prim.Native.Nat.{ℕ, zero, suc, _+_, _*_, _<_}
 use native.Mathlib.Omega.{arith}
 use lib.ListN.{length}
-use Rattle.std.proofs.shelf.Tests.{true≢false, false≢true, both-ways, cases-bool, and-parts, and-from, and-left, and-right, and-cases, cond-true, cond-false}
+use Rattle.std.proofs.shelf.Tests.{true≢false, both-ways, cases-bool, and-left, and-right, and-cases, cond-true, cond-false}
 use Rattle.records.specs.declared.record.Event.{Event}
 use Rattle.records.specs.declared.record.Event.the-variants.{Scalar, SeqStart, SeqEnd, MapStart, MapEnd, RecursiveAlias}
 use Rattle.records.specs.declared.record.Record.{Record}
-use Rattle.nodes.specs.Tree.{Mark, Head, Text, End, Cut, Node, Nodes, Pairs, rec, markOf, flat, flats, flatp, size, whole, wholes, wholep, cutBy, cutAt, noNodes, noPairs, Sound, Sounds, Soundp, Reads}
+use Rattle.nodes.specs.Tree.{Mark, End, Node, Nodes, Pairs, rec, markOf, flat, flats, flatp, whole, wholes, wholep, cutAt, noNodes, noPairs, Sound, Sounds, Soundp, Reads}
 use Rattle.nodes.specs.Tree.End.{seqEnd, mapEnd}
 use Rattle.nodes.specs.Tree.Cut.{ended, stray}
 use Rattle.nodes.specs.Tree.Node.{scalar, alias, seq, dict, cut}

@@ -1,8 +1,8 @@
 -- What bars a node behind others, as at the start of what is left.
-use mathlib.Core.Path.{_≡_, refl, sym, ap, ap₂, subst, _∙_}
+use mathlib.Core.Path.{_≡_, refl, sym, ap, ap₂, _∙_}
 use mathlib.Core.Bool.{Bool, true, false, cond}
 use mathlib.Core.Logic.{⊎-elim}
-use Prim.Native.Nat.{ℕ, suc, _+_, _-_, _<_, _≤_}
+use Prim.Native.Nat.{ℕ, _+_, _-_}
 use native.Mathlib.Nat.{add-assoc}
 use native.Mathlib.Omega.{arith}
 use lib.Dec.{ltb}
@@ -11,7 +11,7 @@ use Rattle.std.specs.declared.option.Option.the-variants.{Some, None}
 use Rattle.std.proofs.shelf.Tests.{cases-lt, lt-ltb, le-ltb}
 use Rattle.records.specs.declared.record.Event.{Event}
 use Rattle.records.specs.declared.refusal.Reason.the-variants.{UnexpectedContainerEnd, RackFull}
-use Rattle.nodes.specs.Tree.{Mark, Cut, Node, Nodes, Pairs, size, scalarEvent, seqEvent, mapEvent}
+use Rattle.nodes.specs.Tree.{Mark, Node, Nodes, Pairs, size, scalarEvent, seqEvent, mapEvent}
 use Rattle.nodes.specs.Tree.Cut.{ended, stray}
 use Rattle.nodes.specs.Tree.Node.{scalar, alias, seq, dict, cut}
 use Rattle.nodes.specs.Tree.Nodes.{none, more}

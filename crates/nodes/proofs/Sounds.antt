@@ -1,7 +1,7 @@
 -- Sound trees: their children behind a node, and that whole trees are sound.
 use mathlib.Core.Path.{_≡_, refl, sym, subst}
 use mathlib.Core.Bool.{Bool, true, false, cond}
-use Rattle.std.proofs.shelf.Tests.{true≢false, false≢true, and-parts}
+use Rattle.std.proofs.shelf.Tests.{false≢true, and-parts}
 use Rattle.nodes.specs.Tree.{End, Node, Nodes, Pairs, whole, wholes, wholep, cutAt, noNodes, noPairs, Sound, Sounds, Soundp}
 use Rattle.nodes.specs.Tree.Node.{scalar, alias, seq, dict, cut}
 use Rattle.nodes.specs.Tree.End.{seqEnd, mapEnd}
