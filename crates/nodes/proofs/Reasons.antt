@@ -135,6 +135,14 @@ module _ (l : Limits) (es : List Record) where
       let y = stop l es c w in
       one-stop b c x y (parted (x .front) (y .front) (x .rest) (y .rest) (sym (x .is) ∙ y .is))
 
+  -- no more is taken than there is
+  pub why-taken : (b : Bar) → Why l es b → b .taken ≤ length es
+  why-taken b (Why.early s) = omega arith
+  why-taken b (Why.misplaced front r q e s d n) = let a = ap length e ∙ length-append front (r ∷ q) in omega arith
+  why-taken b (Why.full front r q e s g h) = let a = ap length e ∙ length-append front (r ∷ q) in omega arith
+  why-taken b (Why.outside front r q e s g h p) = let a = ap length e ∙ length-append front (r ∷ q) in omega arith
+  why-taken b (Why.too-deep front r q e s g h p t o) = let a = ap length e ∙ length-append front (r ∷ q) in omega arith
+
   -- no whole node stands at the front of what is taken
   unfinished : (u : Node) (q : List Record) {front : List Record} → whole u ≡ true → SoFar l front → front ≡ flat u [] ++ q → ⊥
   unfinished u q w s e =
