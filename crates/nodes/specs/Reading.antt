@@ -145,7 +145,7 @@ isEnd (MapStart a t w) = false
 isEnd MapEnd = true
 isEnd (RecursiveAlias a) = false
 
--- the events `front` were taken, within the limits, and are no node yet: some event behind them could be of one
+-- the events `front` were taken, within the limits, and begin a node that is not whole yet: it goes on with some event
 pub record SoFar (l : Limits) (front : List Record) : Type 0 where
   pub begun : (r : Record) × Begins (front ++ r ∷ [])
   pub short : length front ≤ l .room
