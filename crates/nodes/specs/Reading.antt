@@ -145,9 +145,9 @@ isEnd (MapStart a t w) = false
 isEnd MapEnd = true
 isEnd (RecursiveAlias a) = false
 
--- the events `front` were taken, within the limits, and could still become a node
+-- the events `front` were taken, within the limits, and begin a node that is not whole yet: it goes on with some event
 pub record SoFar (l : Limits) (front : List Record) : Type 0 where
-  pub begun : Begins front
+  pub begun : (r : Record) × Begins (front ++ r ∷ [])
   pub short : length front ≤ l .room
   pub inside : All (λ r. placed (l .text) (r .event) ≡ true) front
   pub low : (n : ℕ) → opened (take n front) ≤ l .deep
@@ -185,4 +185,4 @@ Fitting = (l : Limits) (es : List Record) (t : Node) (rest : List Record) → Re
 -- so exactly one holds: the events begin with a node that fits, or their reading breaks off, for one reason
 abbrev pub Reading-decided : Type 0
 Reading-decided = (l : Limits) (es : List Record) (t : Node) (rest : List Record) → Reads es t rest
-    → ((b : Bar) → barred l t ≡ Some b → Why l es b) × ((u : Node) (s : List Record) → es ≡ flat u s → Fits l u → barred l t ≡ None)
+    → ((b : Bar) → (barred l t ≡ Some b) ↔ Why l es b) × ((u : Node) (s : List Record) → es ≡ flat u s → Fits l u → barred l t ≡ None)

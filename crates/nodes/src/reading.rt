@@ -22,7 +22,7 @@ pub fn fitting_nodes_are_read() -> u8
     0
 }
 
-/// A reading that breaks off does so for the reason that it gives, and never where the events begin with a node that fits.
+/// A reading that breaks off does so for the one reason that it gives, and never where the events begin with a node that fits.
 pub fn readings_break_off_rightly() -> u8
     ensures { λ _. ⌜ Reading-decided ⌝ }
 {

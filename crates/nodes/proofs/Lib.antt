@@ -1,0 +1,10 @@
+pub mod Flats
+pub mod Sounds
+pub mod Readings
+pub mod Fits
+pub mod Gaps
+pub mod Levels
+pub mod Whys
+pub mod Taken
+pub mod Shifts
+pub mod Reasons
