@@ -1,2 +1,5 @@
 pub mod Tree
 pub mod Reading
+pub mod Prints
+pub mod Alike
+pub mod AlikeExamples

@@ -1,0 +1,4 @@
+-- Lemmas on nodes and their fingerprints.
+pub mod Equality
+pub mod Leaves
+pub mod Tested
