@@ -8,3 +8,6 @@ pub mod Whys
 pub mod Taken
 pub mod Shifts
 pub mod Reasons
+pub mod Leaves
+pub mod Equality
+pub mod Tested

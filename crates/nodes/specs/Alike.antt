@@ -1,13 +1,10 @@
 -- When fingerprints are alike: YAML's node equality, as a relation and as a test.
 use mathlib.Core.Path.{_≡_}
 use mathlib.Core.Bool.{Bool, true, false, cond, Bool·beq, _&&_}
-use mathlib.Core.List.{List, []}
 use mathlib.Core.Logic.{_↔_}
-use Prim.Native.Nat.{ℕ}
 use lib.Dec.{eqb}
 use Rattle.std.specs.declared.option.Option.{Option}
 use Rattle.std.specs.declared.option.Option.the-variants.{Some, None as Nothing}
-use Rattle.records.specs.declared.tags.SfTag.{SfTag}
 use Rattle.records.specs.Tags.{sameTag}
 use Rattle.scalars.specs.Computed.{sameBytes}
 use Rattle.nodes.specs.Prints.{Canon, Leaf, Print, Prints, PrintPairs}

@@ -6,13 +6,12 @@ use lib.Chars.{codes}
 use Rattle.std.specs.declared.option.Option.{Option}
 use Rattle.std.specs.declared.option.Option.the-variants.{Some, None as Nothing}
 use Rattle.records.specs.declared.record.Place.{Place}
-use Rattle.records.specs.declared.record.ScalarStyle.{ScalarStyle}
 use Rattle.records.specs.declared.tags.SfTag.{SfTag}
 use Rattle.records.specs.declared.tags.SfTag.the-variants.{None, Int, Float, Bool as BoolTag, Null, Seq, Map, TimeStamp, Binary, String, Merge, Value, NonSpecific, Include, Degrees, Radians, Other}
 use Rattle.scalars.specs.Typed.{plain, numeric}
 use Rattle.scalars.specs.Computed.{integerIn, nullText, sameBytes}
 use Rattle.events.specs.View.{bytesAt}
-use Rattle.nodes.specs.Tree.{Head, Text, Node, Nodes, Pairs}
+use Rattle.nodes.specs.Tree.{Text, Node, Nodes, Pairs}
 use Rattle.nodes.specs.Tree.Node.{scalar, alias, seq, dict, cut}
 use Rattle.nodes.specs.Tree.Nodes.{none, more}
 use Rattle.nodes.specs.Tree.Pairs.{done, pair}
@@ -115,7 +114,7 @@ abbrev pub rawBytes : List ℕ → Option Place → Option (List ℕ)
 rawBytes text Nothing = Nothing
 rawBytes text (Some p) = Some (bytesAt text p)
 
--- whether a scalar with no tag, in plain style, is a null
+-- whether there is no tag
 abbrev pub untagged : SfTag → Bool
 untagged None = true
 untagged Int = false
@@ -135,6 +134,7 @@ untagged Degrees = false
 untagged Radians = false
 untagged Other = false
 
+-- a scalar with no tag, in plain style and with a null text, is a null
 abbrev pub wordsOf : List ℕ → Text → Leaf
 wordsOf text x =
     words (bytesAt text (x .value))

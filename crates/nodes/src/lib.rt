@@ -1,2 +1,3 @@
 // The theory of nodes: each function stands for the theorem that it ensures.
+pub mod alike;
 pub mod reading;

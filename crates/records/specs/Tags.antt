@@ -1,5 +1,7 @@
--- What is asked of tags, as lists of the tags of which it holds.
+-- What is asked of tags, as lists of the tags of which it holds; and when two tags are the same.
 use mathlib.Core.Bool.{Bool, true, false}
+use Prim.Native.Nat.{ℕ}
+use lib.Dec.{eqb}
 use Rattle.records.specs.declared.tags.SfTag.{SfTag}
 use Rattle.records.specs.declared.tags.SfTag.the-variants.{None, Int, Float, Bool as BoolTag, Null, Seq, Map, TimeStamp, Binary, String, Merge, Value, NonSpecific, Include, Degrees, Radians, Other}
 
@@ -62,3 +64,26 @@ stringy Include = true
 stringy Degrees = false
 stringy Radians = false
 stringy Other = true
+
+-- the number of a tag, in the order of their declaration
+abbrev pub tagNumber : SfTag → ℕ
+tagNumber None = 0
+tagNumber Int = 1
+tagNumber Float = 2
+tagNumber BoolTag = 3
+tagNumber Null = 4
+tagNumber Seq = 5
+tagNumber Map = 6
+tagNumber TimeStamp = 7
+tagNumber Binary = 8
+tagNumber String = 9
+tagNumber Merge = 10
+tagNumber Value = 11
+tagNumber NonSpecific = 12
+tagNumber Include = 13
+tagNumber Degrees = 14
+tagNumber Radians = 15
+tagNumber Other = 16
+
+abbrev pub sameTag : SfTag → SfTag → Bool
+sameTag a b = eqb (tagNumber a) (tagNumber b)

@@ -1,3 +1,4 @@
+pub mod Computing
 pub mod Numbers
 pub mod Parts
 pub mod Prefixes

@@ -8,33 +8,15 @@ use native.Mathlib.Nat.{zero-mul, zero-add, mul-one, mul-le-mul-left}
 use native.Mathlib.Omega.{arith}
 use lib.Dec.{eqb, ltb}
 use lib.ListN.{length, getD, drop}
-use Rattle.std.specs.Iters.{folded}
 use Rattle.std.specs.declared.option.Option.the-variants.{Some, None}
 use Rattle.std.proofs.shelf.Lists.{at-drop-more, at-drop-all}
 use Rattle.std.proofs.shelf.Tests.{eqb-true, ltb-true, false≢true}
 use Rattle.std.proofs.shelf.Ways.{tells}
 use Rattle.scalars.specs.Class.{classOf}
+use Rattle.scalars.specs.Running.{State, start, advance, step, run}
+use Rattle.scalars.specs.Running.State.{so-far, lost}
 use Rattle.scalars.specs.Spelling.{Digits, Number}
 use Rattle.scalars.specs.Spelling.Digits.{one, more, apart}
-
--- the number so far and whether a digit stands last, or nothing once the digits are refused
-pub data State : Type 0 where
-  so-far : ℕ → Bool → State
-  lost : State
-
-abbrev pub start : State
-start = so-far 0 false
-
--- one more byte, of class d
-abbrev pub advance : ℕ → ℕ → Bool → ℕ → State
-advance radix v last d = cond (eqb d 16) (cond last (so-far v false) lost) (cond (ltb d radix) (so-far (v * radix + d) true) lost)
-
-abbrev pub step : ℕ → State → ℕ → State
-step radix lost b = lost
-step radix (so-far v last) b = advance radix v last (classOf b)
-
-abbrev pub run : ℕ → State → List ℕ → State
-run radix s bs = folded (step radix) s bs
 
 run-append : (radix : ℕ) (s : State) (xs ys : List ℕ) → run radix s (xs ++ ys) ≡ run radix (run radix s xs) ys
 run-append radix s [] ys = refl

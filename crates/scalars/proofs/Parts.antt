@@ -16,7 +16,7 @@ use Rattle.scalars.specs.Spelling.{Sign, Prefix, Digits, Plain, Spells, Spelli
 use Rattle.scalars.specs.Spelling.Sign.{unsigned as no-sign, plus, minus}
 use Rattle.scalars.specs.Spelling.Prefix.{decimal, small-x, large-x, small-o, large-o, small-b, large-b}
 use Rattle.scalars.proofs.Numbers.{reads}
-use Rattle.scalars.proofs.Numbers.State.{so-far}
+use Rattle.scalars.specs.Running.State.{so-far}
 use Rattle.scalars.proofs.Prefixes.{Among, among, first, not-blank, sign-off, prefix-off, sign-of, prefix-of, radix-bounds}
 use Rattle.scalars.proofs.Trimming.{Bare, trimmed-bare, trimmed-unique}
 

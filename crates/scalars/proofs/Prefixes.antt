@@ -16,7 +16,7 @@ use Rattle.scalars.specs.Class.{classOf}
 use Rattle.scalars.specs.Radices.{lettered, radixOf, digitsOf}
 use Rattle.scalars.specs.Signs.{isMinus, unsigned}
 use Rattle.scalars.specs.Trimmed.{blank}
-use Rattle.scalars.specs.Spelling.{Sign, Prefix, Digits}
+use Rattle.scalars.specs.Spelling.{Sign, Prefix, Digits, Plain}
 use Rattle.scalars.specs.Spelling.Sign.{unsigned as no-sign, plus, minus}
 use Rattle.scalars.specs.Spelling.Prefix.{decimal, small-x, large-x, small-o, large-o, small-b, large-b}
 use Rattle.scalars.specs.Spelling.Digits.{one, more, apart}
@@ -128,3 +128,12 @@ prefix-of (a ∷ x ∷ ds) = try a 48 zero (λ n. found-decimal (a ∷ x ∷ ds)
         (λ n₂. try x 111 (named 111 (_, small-o, refl) p) (λ n₃. try x 79 (named 79 (_, large-o, refl) p)
         (λ n₄. try x 98 (named 98 (_, small-b, refl) p) (λ n₅. try x 66 (named 66 (_, large-b, refl) p)
         (λ n₆. found-decimal (a ∷ x ∷ ds) (grind (arith, tells))))))))
+
+-- a zero that leads other digits of a decimal, and none
+pub zero-leads : (radix : ℕ) (ds : List ℕ) → radix ≡ 10 → 2 ≤ length ds → getD ds 0 0 ≡ 48 → Plain radix ds → ⊥
+zero-leads radix [] ten h e g = omega arith
+zero-leads radix (b ∷ ds) ten h e g = omega (arith, ap length (g ten ds (ap (λ x. x ∷ ds) e)))
+
+pub no-zero-leads : (radix : ℕ) (ds : List ℕ) → (radix ≡ 10 → 2 ≤ length ds → getD ds 0 0 ≡ 48 → ⊥) → Plain radix ds
+no-zero-leads radix ds h ten [] e = refl
+no-zero-leads radix ds h ten (b ∷ rest) e = absurd (h ten (omega (arith, ap length e)) (ap (λ xs. getD xs 0 0) e))

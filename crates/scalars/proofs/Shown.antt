@@ -15,8 +15,9 @@ use Rattle.scalars.specs.Trimmed.{blank, Trimmed}
 use Rattle.scalars.specs.Spelling.{Sign, Prefix, Plain, Spells}
 use Rattle.scalars.specs.Spelling.Sign.{unsigned as no-sign, minus}
 use Rattle.scalars.specs.Spelling.Prefix.{decimal, small-x}
-use Rattle.scalars.proofs.Numbers.{run, start, reads, spelled, apart-states}
-use Rattle.scalars.proofs.Numbers.State.{so-far, lost}
+use Rattle.scalars.proofs.Numbers.{reads, spelled, apart-states}
+use Rattle.scalars.specs.Running.{run, start}
+use Rattle.scalars.specs.Running.State.{so-far, lost}
 use Rattle.scalars.proofs.Parts.{Parts, into-parts, so-far-number}
 use Rattle.scalars.proofs.Trimming.{Bare, trimmed-bare}
 

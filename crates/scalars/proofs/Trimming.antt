@@ -1,7 +1,7 @@
 -- Blanks are dropped one by one, and one text only is left at the end.
 use mathlib.Core.Path.{_≡_, refl, sym, ap, ap₂, _∙_, subst}
 use mathlib.Core.List.{List, [], _∷_, _++_, append-assoc}
-use mathlib.Core.Bool.{true, false}
+use mathlib.Core.Bool.{Bool, true, false, cond}
 use Prim.Native.Nat.{ℕ, _-_, _+_, _<_}
 use native.Mathlib.Omega.{arith}
 use lib.ListN.{length, getD, take, drop}
@@ -9,7 +9,8 @@ use Rattle.std.specs.shelf.Lists.{All}
 use Rattle.std.proofs.shelf.Elements.{all-push, all-append}
 use Rattle.std.proofs.shelf.Lists.{take-all, take-more, take-rest, length-push, same-from-push}
 use Rattle.std.proofs.shelf.Tests.{both-ways}
-use Rattle.scalars.specs.Trimmed.{blank, Blanks, BeginsBare, EndsBare, Trimmed}
+use Rattle.scalars.specs.Trimmed.{blank, Blanks, BeginsBare, EndsBare, TrimmedStart, TrimmedEnd, Trimmed}
+use Rattle.scalars.specs.Computed.{bareFront, ahead, bareBack}
 
 abbrev pub Blank : ℕ → Type 0
 Blank b = blank b ≡ true
@@ -126,3 +127,43 @@ trimmed-bare before r after blanks-b blanks-a bare = record {
 
     at-end : (b : ℕ) (rest : List ℕ) → r ≡ rest ++ (b ∷ []) → All Bare (b ∷ [])
     at-end b rest e = all-right Bare rest (b ∷ []) (subst (All Bare) e bare)
+
+-- trimmed at the front and then at the end
+pub trimmed-both : {t s r : List ℕ} → TrimmedStart t s → TrimmedEnd s r → Trimmed t r
+trimmed-both front back = record {
+  before = front .before;
+  after = back .after;
+  whole = front .whole ∙ ap (λ r. front .before ++ r) (back .whole);
+  blanks-before = front .blanks;
+  blanks-after = back .blanks;
+  begins = λ b r e. front .begins b (r ++ back .after) (back .whole ∙ ap (λ x. x ++ back .after) e);
+  ends = back .ends;
+}
+
+-- the same, computed
+front-computed : (t : List ℕ) → TrimmedStart t (bareFront t)
+front-computed [] = record { before = []; whole = refl; blanks = tt; begins = λ b rest e. absurd (omega (arith, ap length e)) }
+front-computed (b ∷ bs) = go (blank b) refl (front-computed bs)
+  where
+    go : (t : Bool) → blank b ≡ t → TrimmedStart bs (bareFront bs) → TrimmedStart (b ∷ bs) (cond t (bareFront bs) (b ∷ bs))
+    go true e d = record { before = b ∷ d .before; whole = ap (λ xs. b ∷ xs) (d .whole); blanks = (e, d .blanks); begins = d .begins }
+    go false e d = record { before = []; whole = refl; blanks = tt; begins = λ c rest p. ap blank (sym (cons-head b c _ _ p)) ∙ e }
+
+ends-more : (b c : ℕ) (r : List ℕ) → EndsBare (c ∷ r) → EndsBare (b ∷ c ∷ r)
+ends-more b c r g x [] e = absurd (omega (arith, ap length e))
+ends-more b c r g x (y ∷ ys) e = g x ys (cons-tail b y _ _ e)
+
+back-computed : (t : List ℕ) → TrimmedEnd t (bareBack t)
+back-computed [] = record { after = []; whole = refl; blanks = tt; ends = ends-empty [] (omega arith) }
+back-computed (b ∷ bs) = go (bareBack bs) (back-computed bs)
+  where
+    alone : (t : Bool) → blank b ≡ t → TrimmedEnd bs [] → TrimmedEnd (b ∷ bs) (cond t [] (b ∷ []))
+    alone true e d = record { after = b ∷ bs; whole = refl; blanks = (e, subst Blanks (sym (d .whole)) (d .blanks)); ends = ends-empty [] (omega arith) }
+    alone false e d = record { after = d .after; whole = ap (λ xs. b ∷ xs) (d .whole); blanks = d .blanks; ends = ends-bare (b ∷ []) (omega arith) e }
+
+    go : (r : List ℕ) → TrimmedEnd bs r → TrimmedEnd (b ∷ bs) (ahead b r)
+    go [] d = alone (blank b) refl d
+    go (c ∷ cs) d = record { after = d .after; whole = ap (λ xs. b ∷ xs) (d .whole); blanks = d .blanks; ends = ends-more b c cs (d .ends) }
+
+pub trimmed-computed : (t : List ℕ) → Trimmed t (bareBack (bareFront t))
+trimmed-computed t = trimmed-both (front-computed t) (back-computed (bareFront t))

@@ -1,7 +1,9 @@
 pub mod Class
+pub mod Computed
 pub mod Examples
 pub mod Nullish
 pub mod Radices
+pub mod Running
 pub mod Signs
 pub mod Spelling
 pub mod Trimmed

@@ -4,7 +4,7 @@ use native.Mathlib.Omega.{arith}
 use Rattle.std.proofs.shelf.Ways.{tells}
 use Rattle.scalars.specs.Spelling.{Number}
 use Rattle.scalars.proofs.Numbers.{advance-digit, goes-on, refuses, overflows, ends-read, ends-open}
-use Rattle.scalars.proofs.Numbers.State.{so-far}
+use Rattle.scalars.specs.Running.State.{so-far}
 use Rattle.scalars.proofs.integer.parse_digits.Needs as need
 use Rattle.scalars.proofs.integer.parse_digits.Needs.{then-class-eq-UNDERSCORE·else-not-after-digit, else-class-eq-UNDERSCORE·else-digit-radix·in-Continue-checked-mul·in-Continue-value}
 

@@ -1,0 +1,2 @@
+-- Lemmas on tags.
+pub mod TagLaws
