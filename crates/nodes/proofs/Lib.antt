@@ -11,3 +11,12 @@ pub mod Reasons
 pub mod Leaves
 pub mod Equality
 pub mod Tested
+pub mod Stops
+pub mod Agrees
+pub mod Remains
+pub mod KeyLaws
+pub mod Keeping
+pub mod Marks
+pub mod Inserting
+pub mod Resolving
+pub mod SmallMerges

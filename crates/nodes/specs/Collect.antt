@@ -154,7 +154,7 @@ abbrev mutual
   mergeValue R b s defers u i (alias k a) = cond (known a (R .anchors)) (after (slotFor s i k) (Ok [])) (stopped UnknownAlias (k .location) i)
   mergeValue R b s defers u i (seq k h ns) = after (startFor s i k (seqEvent h)) (elements R b (inner s) defers u (i + 1) ns)
   mergeValue R b s defers u i (dict k h ps) =
-      after (captured true s i (dict k h ps)) (at (i + size (dict k h ps)) (expand R (referenceAt b (dict k h ps)) u (dict k h ps)))
+      after (captured true s i (dict k h ps)) (at (i + size (dict k h ps)) (andThen (gather R (expansion (referenceAt b (dict k h ps))) held false u 0 ps) (closed R 0)))
   mergeValue R b s defers u i (cut ended) = Err (record { why = endOf s i; taken = i; looked = false })
   mergeValue R b s defers u i (cut (stray k e r)) = stopped MergeValueNotMapOrSeqOfMaps (k .location) i
 

@@ -4,3 +4,9 @@ pub mod Taking
 pub mod Prints
 pub mod Alike
 pub mod AlikeExamples
+pub mod Fields
+pub mod Repeats
+pub mod Collect
+pub mod Leaving
+pub mod Agreeing
+pub mod Merging
