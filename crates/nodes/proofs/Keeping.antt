@@ -8,7 +8,7 @@ use native.Mathlib.Omega.{arith}
 use Rattle.std.specs.declared.result.Result.the-variants.{Ok}
 use Rattle.std.proofs.shelf.Tests.{true≢false, false≢true, cases-bool, or-parts, or-from, or-left, or-right, cond-true, cond-false, cond-both}
 use Rattle.nodes.specs.Fields.{Item, sameKey, hasKey}
-use Rattle.nodes.specs.Repeats.{firsts, notFirsts, lasts, head, refuseRepeat, Distinct, First-wins, Last-wins, Keys-kept-once, Error-at-first-repeat}
+use Rattle.nodes.specs.Repeats.{firsts, notFirsts, lasts, lastsBefore, head, refuseRepeat, Distinct, First-wins, Last-wins, Keys-kept-once, Error-at-first-repeat}
 use Rattle.nodes.proofs.KeyLaws.{same-key-refl, same-key-sym, has-key-append, has-key-same}
 
 cond-before : {A : Type 0} (q : Bool) (x y z : List A) → cond q (x ++ z) (y ++ z) ≡ cond q x y ++ z
@@ -49,12 +49,7 @@ module _ (text : List ℕ) where
       let h = not-firsts-append (seen ++ e ∷ []) a b ∙ ap (λ s. notFirsts text (seen ++ e ∷ []) a ++ notFirsts text s b) (append-assoc seen (e ∷ []) a) in
       ap (λ x. cond (hasKey text e seen) (e ∷ x) x) h ∙ cond-before (hasKey text e seen) _ _ (notFirsts text (seen ++ e ∷ a) b)
 
-  -- the fields with no alike key behind them, where `behind` stands behind all
-  abbrev pub lastsBefore : List Item → List Item → List Item
-  lastsBefore behind [] = []
-  lastsBefore behind (e ∷ es) = cond (hasKey text e (es ++ behind)) (lastsBefore behind es) (e ∷ lastsBefore behind es)
-
-  pub lasts-append : (a b : List Item) → lasts text (a ++ b) ≡ lastsBefore b a ++ lasts text b
+  pub lasts-append : (a b : List Item) → lasts text (a ++ b) ≡ lastsBefore text b a ++ lasts text b
   lasts-append [] b = refl
   lasts-append (e ∷ a) b = ap (λ x. cond (hasKey text e (a ++ b)) x (e ∷ x)) (lasts-append a b) ∙ cond-before (hasKey text e (a ++ b)) _ _ (lasts text b)
 
@@ -65,7 +60,8 @@ first-wins text a b e =
 
 pub last-wins : Last-wins
 last-wins text a b e =
-    (lastsBefore text (e ∷ b) a, lasts-append text a (e ∷ b) ∙ ap (λ x. lastsBefore text (e ∷ b) a ++ x) (cond-before (hasKey text e b) [] (e ∷ []) (lasts text b)))
+    lasts-append text a (e ∷ b)
+    ∙ ap (λ x. lastsBefore text (e ∷ b) a ++ x) (cond-before (hasKey text e b) [] (e ∷ []) (lasts text b))
 
 module _ (text : List ℕ) where
   -- a key that is had by what is seen, and one that is not, are not the same

@@ -31,6 +31,11 @@ abbrev pub lasts : List ℕ → List Item → List Item
 lasts text [] = []
 lasts text (e ∷ es) = cond (hasKey text e es) (lasts text es) (e ∷ lasts text es)
 
+-- the same where `behind` stands behind all
+abbrev pub lastsBefore : List ℕ → List Item → List Item → List Item
+lastsBefore text behind [] = []
+lastsBefore text behind (e ∷ es) = cond (hasKey text e (es ++ behind)) (lastsBefore text behind es) (e ∷ lastsBefore text behind es)
+
 abbrev pub notLasts : List ℕ → List Item → List Item
 notLasts text [] = []
 notLasts text (e ∷ es) = cond (hasKey text e es) (e ∷ notLasts text es) (notLasts text es)
@@ -75,7 +80,7 @@ First-wins = (text : List ℕ) (a b : List Item) (e : Item)
 
 abbrev pub Last-wins : Type 0
 Last-wins = (text : List ℕ) (a b : List Item) (e : Item)
-    → (c : List Item) × (lasts text (a ++ e ∷ b) ≡ c ++ (cond (hasKey text e b) [] (e ∷ []) ++ lasts text b))
+    → lasts text (a ++ e ∷ b) ≡ lastsBefore text (e ∷ b) a ++ (cond (hasKey text e b) [] (e ∷ []) ++ lasts text b)
 
 -- both keep one field of each key, and lose no key
 abbrev pub Keys-kept-once : Type 0
