@@ -20,3 +20,8 @@ pub mod Marks
 pub mod Inserting
 pub mod Resolving
 pub mod SmallMerges
+pub mod Looks
+pub mod Finds
+pub mod Fewer
+pub mod Unfull
+pub mod Enough

@@ -10,3 +10,6 @@ pub mod Collect
 pub mod Leaving
 pub mod Agreeing
 pub mod Merging
+pub mod Looking
+pub mod Searching
+pub mod Rooming
