@@ -1,0 +1,5 @@
+mod Stacks
+mod Asks
+mod Lefts
+mod Turns
+mod Going

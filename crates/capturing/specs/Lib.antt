@@ -1,0 +1,3 @@
+pub mod Capturing
+pub mod Paths
+pub mod Storing
