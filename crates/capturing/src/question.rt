@@ -6,6 +6,7 @@ use crate::path::Spot;
 use records::record::Event;
 use records::refusal::Reason;
 
+/// Whether an event is an end that cannot stand at a spot.
 fn is_misplaced(spot: Spot, event: Event) -> bool
     ensures { λ r. ⌜ r ≡ misplaced spot event ⌝ }
 {
@@ -16,6 +17,7 @@ fn is_misplaced(spot: Spot, event: Event) -> bool
     }
 }
 
+/// Whether an event opens a container.
 fn is_start(event: Event) -> bool
     ensures { λ r. ⌜ r ≡ isStart event ⌝ }
 {

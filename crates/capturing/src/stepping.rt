@@ -23,6 +23,7 @@ impl Spot {
         }
     }
 
+    /// Whether the node is read.
     fn is_done(self) -> bool
         ensures { λ r. ⌜ r ≡ isDone self ⌝ }
     {
