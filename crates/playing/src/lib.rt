@@ -1,0 +1,2 @@
+// The playback of recorded events as a source.
+pub mod replay;
