@@ -16,7 +16,7 @@ use Rattle.nodes.specs.Tree.Node.{scalar, alias, seq, dict, cut}
 use Rattle.nodes.specs.Tree.Nodes.{none, more}
 use Rattle.nodes.specs.Tree.Pairs.{done, pair}
 use Rattle.nodes.proofs.Flats.{drop-flat, size-flat, size-some}
-use Rattle.searching.specs.Slots.{deeper}
+use Rattle.nodes.specs.Reading.{opens}
 
 -- what a slot holds, and what stands behind it
 pub here : (s : List Record) (i : ℕ) (x : Record) (r : List Record) → drop i s ≡ x ∷ r → getD s i blank ≡ x
@@ -44,7 +44,7 @@ further (suc d) n = n
 
 abbrev pub run : ℕ → List Record → ℕ
 run d [] = 0
-run d (e ∷ r) = suc (further (deeper d (e .event)) (run (deeper d (e .event)) r))
+run d (e ∷ r) = suc (further (opens d (e .event)) (run (opens d (e .event)) r))
 
 one-less : (d : ℕ) → suc d - 1 ≡ d
 one-less d = omega arith
@@ -81,21 +81,21 @@ pub run-at : (s : List Record) (i : ℕ) (t : Node) (r : List Record) → whole 
 run-at s i t r w e = ap (run 0) e ∙ run-node t r w
 
 -- one turn of the count
-turn : (s : List Record) (i d : ℕ) → i < length s → run d (drop i s) ≡ suc (further (deeper d (getD s i blank .event)) (run (deeper d (getD s i blank .event)) (drop (i + 1) s)))
+turn : (s : List Record) (i d : ℕ) → i < length s → run d (drop i s) ≡ suc (further (opens d (getD s i blank .event)) (run (opens d (getD s i blank .event)) (drop (i + 1) s)))
 turn s i d h = ap (run d) (drop-more s i blank h)
 
 further-on : (d n : ℕ) → 0 < d → further d n ≡ n
 further-on zero n h = absurd (omega arith)
 further-on (suc d) n h = refl
 
-pub turned : (s : List Record) (i d d′ m : ℕ) → i < length s → d′ ≡ deeper d (getD s i blank .event) → i + run d (drop i s) ≡ m → 0 < d′ → i + 1 + run d′ (drop (i + 1) s) ≡ m
+pub turned : (s : List Record) (i d d′ m : ℕ) → i < length s → d′ ≡ opens d (getD s i blank .event) → i + run d (drop i s) ≡ m → 0 < d′ → i + 1 + run d′ (drop (i + 1) s) ≡ m
 turned s i d d′ m h z k p =
     let u = turn s i d h in
-    let v : further (deeper d (getD s i blank .event)) (run (deeper d (getD s i blank .event)) (drop (i + 1) s)) ≡ run d′ (drop (i + 1) s) = ap (λ x. further x (run x (drop (i + 1) s))) (sym z) ∙ further-on d′ _ p in
+    let v : further (opens d (getD s i blank .event)) (run (opens d (getD s i blank .event)) (drop (i + 1) s)) ≡ run d′ (drop (i + 1) s) = ap (λ x. further x (run x (drop (i + 1) s))) (sym z) ∙ further-on d′ _ p in
     omega arith
 
-pub stopped : (s : List Record) (i d m : ℕ) → i < length s → deeper d (getD s i blank .event) ≡ 0 → i + run d (drop i s) ≡ m → i + 1 ≡ m
+pub stopped : (s : List Record) (i d m : ℕ) → i < length s → opens d (getD s i blank .event) ≡ 0 → i + run d (drop i s) ≡ m → i + 1 ≡ m
 stopped s i d m h z k =
     let u = turn s i d h in
-    let v : further (deeper d (getD s i blank .event)) (run (deeper d (getD s i blank .event)) (drop (i + 1) s)) ≡ 0 = ap (λ x. further x (run x (drop (i + 1) s))) z in
+    let v : further (opens d (getD s i blank .event)) (run (opens d (getD s i blank .event)) (drop (i + 1) s)) ≡ 0 = ap (λ x. further x (run x (drop (i + 1) s))) z in
     omega arith

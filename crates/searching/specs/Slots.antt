@@ -1,8 +1,8 @@
--- What walking over slots goes by: how deep it is, how far it comes, what is a merge key, and what a search answers.
+-- What walking over slots goes by: how far it comes, what is a merge key, and what a search answers.
 use mathlib.Core.Path.{_≡_}
 use mathlib.Core.Bool.{Bool, true, false}
 use mathlib.Core.List.{List, []}
-use Prim.Native.Nat.{ℕ, suc, _+_, _-_, _≤_}
+use Prim.Native.Nat.{ℕ, _+_, _-_, _≤_}
 use lib.ListN.{length, drop}
 use Rattle.std.specs.declared.option.Option.{Option}
 use Rattle.std.specs.declared.option.Option.the-variants.{Some, None as Nothing}
@@ -10,23 +10,12 @@ use Rattle.std.specs.declared.result.Result.{Result}
 use Rattle.std.specs.declared.result.Result.the-variants.{Ok, Err}
 use Rattle.std.specs.shelf.Lists.{All}
 use Rattle.records.specs.declared.location.Location.{Location}
-use Rattle.records.specs.declared.record.Event.{Event}
-use Rattle.records.specs.declared.record.Event.the-variants.{Scalar, SeqStart, SeqEnd, MapStart, MapEnd, RecursiveAlias}
 use Rattle.records.specs.declared.record.Record.{Record}
 use Rattle.records.specs.Places.{placed}
 use Rattle.events.specs.View.{View}
 use Rattle.fingerprints.specs.Views.{mergeKey}
 use Rattle.nodes.specs.Tree.{Node, Nodes, Pairs, Inside, flat, flats, flatp, size, sizes, sizep, whole, wholes, wholep}
 use Rattle.nodes.specs.Fields.{mergeIn, mergeIns, mergeInp}
-
--- how many containers are open behind an event, of d before it
-abbrev pub deeper : ℕ → Event → ℕ
-deeper d (Scalar a t w s v) = d
-deeper d (SeqStart a t w) = suc d
-deeper d SeqEnd = d - 1
-deeper d (MapStart a t w) = suc d
-deeper d MapEnd = d - 1
-deeper d (RecursiveAlias a) = d
 
 -- from n on fewer slots are left than from `at` on, or none
 abbrev pub Onward : List Record → ℕ → ℕ → Type 0

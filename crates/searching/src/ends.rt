@@ -5,14 +5,15 @@ ghost use mathlib.Core.List.{List};
 ghost use Prim.Native.Nat.{_+_, _<_, _≤_};
 ghost use lib.ListN.{drop};
 ghost use Rattle.nodes.specs.Tree.{Node, flat, size, whole};
-ghost use Rattle.searching.specs.Slots.{deeper, Onward};
+ghost use Rattle.nodes.specs.Reading.{opens};
+ghost use Rattle.searching.specs.Slots.{Onward};
 use records::record::Event;
 use records::record::Record;
 
 // How many containers are open behind the event, of `depth` before it.
 fn depth_after(event: Event, depth: usize) -> usize
     requires { ⌜ depth < 18446744073709551615 ⌝ }
-    ensures { λ r. ⌜ r ≡ deeper depth event ⌝ ∗ ⌜ r ≤ depth + 1 ⌝ }
+    ensures { λ r. ⌜ r ≡ opens depth event ⌝ ∗ ⌜ r ≤ depth + 1 ⌝ }
 {
     match event {
         Event::SeqStart { .. } | Event::MapStart { .. } => depth + 1,
