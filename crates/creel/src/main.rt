@@ -1,4 +1,6 @@
 // Reads the text of an order and its tapes, and reports what each tape holds: creel TEXT TAPE..
+#![tactic(auto)]
+
 mod file;
 mod kind;
 mod report;

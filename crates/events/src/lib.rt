@@ -1,3 +1,5 @@
+#![tactic(auto)]
+
 pub mod ev;
 pub mod resolving;
 pub mod source;

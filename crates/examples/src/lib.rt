@@ -1,4 +1,6 @@
 // Examples of what the layers answer, run as tests. They stand apart so that no layer is proved twice for them.
+#![tactic(auto)]
+
 #[cfg(test)]
 mod events_tests;
 #[cfg(test)]

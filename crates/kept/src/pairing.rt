@@ -11,7 +11,7 @@ use crate::list::{Full, Kept};
 pub fn pair_off<T: Copy, E: Equality<T>>(eq: &E, xs: &[T], ys: &[T], room: &mut [T]) -> Option<bool>
     ensures { MatchOption result
         (length room.old < length xs.now)
-        (λ b. (length xs.now ≤ length room.old) × ((b ≡ true) ↔ Paired (same eq.now) xs.now ys.now)) }
+        (λ b. (length xs.now ≤ length room.old) × ((b ≡ true) ↔ Paired (E.same eq.now) xs.now ys.now)) }
 {
     let mut left = Kept::new(room);
     match push_all(&mut left, xs) {
@@ -35,7 +35,7 @@ fn push_all<T: Copy>(left: &mut Kept<'_, T>, xs: &[T]) -> Result<(), Full>
 
 // Takes an equal of each element of `ys` off, and says whether each had one and nothing is left.
 fn take_all_off<T: Copy, E: Equality<T>>(left: &mut Kept<'_, T>, eq: &E, ys: &[T]) -> bool
-    ensures { result ≡ paired (same eq.now) ys.now (held_by left.old) }
+    ensures { result ≡ paired (E.same eq.now) ys.now (held_by left.old) }
 {
     for y in ys {
         if !left.take_off(eq, y) {

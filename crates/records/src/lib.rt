@@ -1,3 +1,5 @@
+#![tactic(auto)]
+
 pub mod location;
 pub mod options;
 pub mod record;

@@ -1,6 +1,6 @@
 // Tags, as far as the reader tells them apart.
 ghost use Rattle.std.specs.Prelude.{◌≡◌, Decides};
-ghost use Rattle.records.specs.Tags.{core, forced, stringy};
+ghost use Rattle.records.specs.Tags.{core, forced, stringy, same_tag};
 ghost use Rattle.std.specs.Cmp.Rules.{comparing};
 ghost use Rattle.std.proofs.Common.{rules};
 ghost use Rattle.std.specs.Cmp as Keys;
@@ -72,11 +72,15 @@ impl SfTag {
 }
 
 impl PartialEq for SfTag {
-    ghost equals = { λ a b r. Decides r (a ≡ b) };
+    ghost eq = { same_tag };
 
     ghost laws = { Keys.partial_equiv_from_equiv (Prim.search (comparing, rules)) };
 
-    fn eq(&self, other: &SfTag) -> bool {
+    // The same tag exactly where the answer is true.
+    fn eq(&self, other: &SfTag) -> bool
+        ensures value { result ≡ same_tag self.now other.now }
+        ensures identical { Decides result (self.now ≡ other.now) }
+    {
         *self as u8 == *other as u8
     }
 }

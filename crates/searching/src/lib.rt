@@ -1,4 +1,6 @@
 // Walking over nodes that are held in slots.
+#![tactic(auto)]
+
 pub mod ends;
 pub mod merges;
 pub mod visits;

@@ -12,6 +12,8 @@
 //     STYLE     plain single double literal folded
 //
 // The other words are decimal numbers below 2^32, with no sign and no leading zero.
+#![tactic(auto)]
+
 pub mod fault;
 mod head;
 pub mod line;

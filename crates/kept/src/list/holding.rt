@@ -32,8 +32,8 @@ impl<'a, T> Kept<'a, T> {
 
     /// The place of the first element that equals `x`, or `None` where there is none.
     pub fn find<E: Equality<T>>(&self, eq: &E, x: &T) -> Option<usize>
-        ensures place { result ≡ first_by (same eq.now x.now) (held_by self.now) }
-        ensures finds { Finds (same eq.now x.now) (held_by self.now) result }
+        ensures place { result ≡ first_by (E.same eq.now x.now) (held_by self.now) }
+        ensures finds { Finds (E.same eq.now x.now) (held_by self.now) result }
     {
         let items = &*self.items;
         first_equal(&items[0..self.len], eq, x)
@@ -59,8 +59,8 @@ impl<'a, T: Copy> Kept<'a, T> {
     /// Takes the first element that equals `x` off, and says whether there was one. The others stay in order.
     pub fn take_off<E: Equality<T>>(&mut self, eq: &E, x: &T) -> bool
         ensures room { room_of self.new ≡ room_of self.old }
-        ensures found { result ≡ any_by (same eq.now x.now) (held_by self.old) }
-        ensures list { held_by self.new ≡ without (same eq.now x.now) (held_by self.old) }
+        ensures found { result ≡ any_by (E.same eq.now x.now) (held_by self.old) }
+        ensures list { held_by self.new ≡ without (E.same eq.now x.now) (held_by self.old) }
     {
         match self.find(eq, x) {
             None => false,
@@ -88,8 +88,8 @@ impl<'a, T: Copy> Kept<'a, T> {
 
 // The place of the first element that equals `x`.
 fn first_equal<T, E: Equality<T>>(items: &[T], eq: &E, x: &T) -> Option<usize>
-    ensures place { result ≡ first_by (same eq.now x.now) items.now }
-    ensures finds { Finds (same eq.now x.now) items.now result }
+    ensures place { result ≡ first_by (E.same eq.now x.now) items.now }
+    ensures finds { Finds (E.same eq.now x.now) items.now result }
 {
     for i in 0..items.len() {
         if eq.equal(x, &items[i]) {

@@ -25,7 +25,7 @@ loop-x-init g c = (refl, sym (append-nil _))
 
 pub loop-x-preserved : goal.loop-x-preserved
 loop-x-preserved g c =
-    let e = c.in-ok-push.ensures in
+    let e = c.in_ok-push.ensures in
     (e.room ∙ c.loop-x.invariant.0, more _ _ _ _ _ _ c.loop-x-test.true c.x-item.is c.loop-x.invariant.1 e.list.1)
 
 pub returns-in-err-push : goal.returns-in-err-push

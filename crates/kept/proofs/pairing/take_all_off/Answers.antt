@@ -10,8 +10,8 @@ loop-y-preserved g c =
     let same = g.E.Equality.same c.args.eq.now in
     let ys = c.args.ys.now in
     c.loop-y.invariant
-    ∙ paired_more same ys (held_by c.loop-y.left) c.loop-y.y-index _ c.loop-y-test.true c.y-item.is (sym c.take-off.ensures.found ∙ c.if-not-take-off.false)
-    ∙ ap (paired same (drop (c.loop-y.y-index + 1) ys)) (sym c.take-off.ensures.list)
+    ∙ paired_more same ys (held_by c.loop-y.left) c.loop-y.y-index _ c.loop-y-test.true c.y-item.is (sym c.take_off.ensures.found ∙ c.if-not-take_off.false)
+    ∙ ap (paired same (drop (c.loop-y.y-index + 1) ys)) (sym c.take_off.ensures.list)
 
 pub returns-then-not-take-off : goal.returns-then-not-take-off
 returns-then-not-take-off g c =
@@ -22,5 +22,5 @@ returns-then-not-take-off g c =
 pub returns : goal.returns
 returns g c =
     let same = g.E.Equality.same c.args.eq.now in
-    c.is-empty.ensures
+    c.is_empty.ensures
     ∙ sym (c.loop-y.invariant ∙ paired_all same c.args.ys.now (held_by c.loop-y.left) c.loop-y.y-index c.loop-y-test.false)
