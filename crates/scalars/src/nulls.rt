@@ -6,5 +6,5 @@ ghost use Rattle.std.specs.Prelude.{Decides};
 pub fn scalar_is_nullish(text: &[u8]) -> bool
     ensures { Decides result (Nullish text.now) }
 {
-    text.is_empty() || text == b"~" || text.eq_ignore_ascii_case(b"null")
+    text.is_empty() || text == b"~".as_slice() || text.eq_ignore_ascii_case(b"null")
 }

@@ -5,8 +5,8 @@ use Rattle.creel.proofs.walk.walk_to_close.Goals as goal
 
 pub events-init : goal.events-init
 events-init c =
-    let made = c.in-ok-reader.ensures.means in
-    let after = c.defer-recursive-aliases.ensures.after in
+    let made = c.in_ok-reader.ensures.means in
+    let after = c.defer_recursive_aliases.ensures.after in
     begun _ _ _ _ (ap (λ m. m.events) after ∙ ap (λ m. m.events) made) (ap (λ m. m.close) after ∙ ap (λ m. m.close) made) (ap (λ m. m.deferring) after)
 
 pub overflow-add-count : goal.overflow-add-count
@@ -14,20 +14,20 @@ overflow-add-count c =
     let w = c.events.invariant in
     let r = c.in-Some.record in
     let p = answered _ _ _ _ _ w r _ c.in-Some.is c.in-Ok.ensures.answer in
-    omega (arith, bound _ _ _ _ _ w r p, c.in-ok-reader.ensures.short, sound_short (length c.args.text.now) c.args.tape.now)
+    omega (arith, bound _ _ _ _ _ w r p, c.in_ok-reader.ensures.short, sound_short (length c.args.text.now) c.args.tape.now)
 
-pub events-smaller-then-is-of-kind : goal.events-smaller-then-is-of-kind
-events-smaller-then-is-of-kind c =
+pub events-smaller-then-is_of_kind : goal.events-smaller-then-is_of_kind
+events-smaller-then-is_of_kind c =
     let w = c.events.invariant in
     let r = c.in-Some.record in
     less _ _ _ _ _ w r _ (answered _ _ _ _ _ w r _ c.in-Some.is c.in-Ok.ensures.answer) (left _ _ _ _ _ w r _ _ c.in-Some.is c.in-Ok.ensures.after)
 
-pub events-preserved-then-is-of-kind : goal.events-preserved-then-is-of-kind
-events-preserved-then-is-of-kind c =
+pub events-preserved-then-is_of_kind : goal.events-preserved-then-is_of_kind
+events-preserved-then-is_of_kind c =
     let w = c.events.invariant in
     let r = c.in-Some.record in
     counts _ _ _ _ _ w r _ (answered _ _ _ _ _ w r _ c.in-Some.is c.in-Ok.ensures.answer) (left _ _ _ _ _ w r _ _ c.in-Some.is c.in-Ok.ensures.after)
-    (c.is-of-kind.ensures.0 c.if-is-of-kind.true)
+    (c.is_of_kind.ensures.0 c.if-is_of_kind.true)
 
 pub events-smaller : goal.events-smaller
 events-smaller c =
@@ -40,4 +40,4 @@ events-preserved c =
     let w = c.events.invariant in
     let r = c.in-Some.record in
     passes _ _ _ _ _ w r _ (answered _ _ _ _ _ w r _ c.in-Some.is c.in-Ok.ensures.answer) (left _ _ _ _ _ w r _ _ c.in-Some.is c.in-Ok.ensures.after)
-    (λ h. let e = sym (c.is-of-kind.ensures.1 h) ∙ c.if-is-of-kind.false in let z : ◌≡◌ {A = ℕ} 0 1 = cc in omega arith)
+    (λ h. let e = sym (c.is_of_kind.ensures.1 h) ∙ c.if-is_of_kind.false in let z : ◌≡◌ {A = ℕ} 0 1 = cc in omega arith)

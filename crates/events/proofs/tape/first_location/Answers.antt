@@ -9,8 +9,8 @@ use Rattle.events.proofs.tape.first_location.Goals as goal
 pub returns-then-tape-eq0 : goal.returns-then-tape-eq0
 returns-then-tape-eq0 c = sym (ap (λ rs. own_at unknown (sound (length c.args.text.now) rs)) (nil_from_length c.args.tape.now c.if-tape-eq0.true))
 
-pub returns-then-lies-within : goal.returns-then-lies-within
-returns-then-lies-within c = let e = first_is (length c.args.text.now) c.args.tape.now in grind arith
+pub returns-then-lies_within : goal.returns-then-lies_within
+returns-then-lies_within c = let e = first_is (length c.args.text.now) c.args.tape.now in grind arith
 
-pub returns-else-lies-within : goal.returns-else-lies-within
-returns-else-lies-within c = let e = first_is (length c.args.text.now) c.args.tape.now in grind arith
+pub returns-else-lies_within : goal.returns-else-lies_within
+returns-else-lies_within c = let e = first_is (length c.args.text.now) c.args.tape.now in grind arith

@@ -3,4 +3,4 @@ use Rattle.fingerprints.proofs.Readings.{integer_is}
 use Rattle.fingerprints.proofs.computed.integer_in.Goals as goal
 
 pub returns : goal.returns
-returns c = integer_is c.args.value.now c.args.tag c.args.style c.integer-of.result c.integer-of.ensures
+returns c = integer_is c.args.value.now c.args.tag c.args.style c.integer_of.result c.integer_of.ensures

@@ -28,12 +28,12 @@ loop-x-preserved g c =
     let e = c.in_ok-push.ensures in
     (e.room ∙ c.loop-x.invariant.0, more _ _ _ _ _ _ c.loop-x-test.true c.x-item.is c.loop-x.invariant.1 e.list.1)
 
-pub returns-in-err-push : goal.returns-in-err-push
-returns-in-err-push g c =
-    let e = c.in-err-push.ensures in
+pub returns-in_err-push : goal.returns-in_err-push
+returns-in_err-push g c =
+    let e = c.in_err-push.ensures in
     record {
       room = e.room ∙ c.loop-x.invariant.0;
-      list = MatchResult-from_err c.from-residual.result _ _ c.from-residual.ensures.0
+      list = MatchResult-from_err c.from_residual.result _ _ c.from_residual.ensures.0
           (λ _. full _ _ _ _ _ c.loop-x-test.true c.loop-x.invariant.1 (e.list.0 ∙ c.loop-x.invariant.0));
     }
 

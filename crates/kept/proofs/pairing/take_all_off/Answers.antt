@@ -13,11 +13,11 @@ loop-y-preserved g c =
     ∙ paired_more same ys (held_by c.loop-y.left) c.loop-y.y-index _ c.loop-y-test.true c.y-item.is (sym c.take_off.ensures.found ∙ c.if-not-take_off.false)
     ∙ ap (paired same (drop (c.loop-y.y-index + 1) ys)) (sym c.take_off.ensures.list)
 
-pub returns-then-not-take-off : goal.returns-then-not-take-off
-returns-then-not-take-off g c =
+pub returns-then-not-take_off : goal.returns-then-not-take_off
+returns-then-not-take_off g c =
     let same = g.E.Equality.same c.args.eq.now in
     sym (c.loop-y.invariant
-    ∙ paired_stuck same c.args.ys.now (held_by c.loop-y.left) c.loop-y.y-index _ c.loop-y-test.true c.y-item.is (sym c.take-off.ensures.found ∙ c.if-not-take-off.true))
+    ∙ paired_stuck same c.args.ys.now (held_by c.loop-y.left) c.loop-y.y-index _ c.loop-y-test.true c.y-item.is (sym c.take_off.ensures.found ∙ c.if-not-take_off.true))
 
 pub returns : goal.returns
 returns g c =

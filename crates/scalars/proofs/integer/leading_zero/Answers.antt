@@ -7,5 +7,5 @@ use Rattle.scalars.proofs.integer.leading_zero.Goals as goal
 pub returns-in-48 : goal.returns-in-48
 returns-in-48 c = zero_is_leading c.args.radix c.args.digits.now (search rules) (search rules) (search rules)
 
-pub returns-in-default : goal.returns-in-default
-returns-in-default c = no_zero_leads c.args.radix c.args.digits.now (λ ten p q. grind (arith, nat_tests))
+pub returns-in_default : goal.returns-in_default
+returns-in_default c = no_zero_leads c.args.radix c.args.digits.now (λ ten p q. grind (arith, nat_tests))

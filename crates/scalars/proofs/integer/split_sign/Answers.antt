@@ -10,8 +10,8 @@ returns-in-43 c = record { minus = grind (arith, nat_tests); rest = take_rest c.
 pub returns-in-45 : goal.returns-in-45
 returns-in-45 c = record { minus = grind (arith, nat_tests); rest = take_rest c.args.text.now 1 ∙ grind (arith, nat_tests) }
 
-pub returns-in-default : goal.returns-in-default
-returns-in-default c = record {
+pub returns-in_default : goal.returns-in_default
+returns-in_default c = record {
   minus = grind (arith, nat_tests, get_or_past c.args.text.now 0 0);
   rest = grind (arith, nat_tests, get_or_past c.args.text.now 0 0);
 }

@@ -4,13 +4,13 @@ use Rattle.std.proofs.lemmas.Slice.Eq.{slice_eq-Decides}
 use Rattle.std.proofs.lemmas.List.{nil_from_length}
 use Rattle.std.proofs.lemmas.Bool.Decides.{nat_tests, Decides-eqb}
 use Rattle.scalars.proofs.nulls.scalar_is_nullish.Goals as goal
-use Rattle.scalars.proofs.nulls.scalar_is_nullish.Goals.{then-is-empty, else-is-empty}
+use Rattle.scalars.proofs.nulls.scalar_is_nullish.Goals.{then-is_empty, else-is_empty}
 
 pub returns-then-eq : goal.returns-then-eq
 returns-then-eq c = (
-  λ h. elim c.if-is-empty.branch [
-    | then-is-empty w ↦ inl (nil_from_length c.args.text.now (grind (arith, nat_tests)))
-    | else-is-empty w ↦ inr (inl ((slice_eq-Decides Decides-eqb c.args.text.now (codes "~") w.eq.result w.eq.ensures).0 (cc)))
+  λ h. elim c.if-is_empty.branch [
+    | then-is_empty w ↦ inl (nil_from_length c.args.text.now (grind (arith, nat_tests)))
+    | else-is_empty w ↦ inr (inl ((slice_eq-Decides Decides-eqb c.args.text.now (codes "~") w.eq.result w.eq.ensures).0 (cc)))
   ],
   λ _. search rules,
 )

@@ -21,7 +21,7 @@ returns-in-48-3 c =
     let e : radix_of c.args.rest.now ≡ 2 = grind (arith, nat_tests) in
     record { radix = sym e; digits = digits_behind c.args.rest.now (omega arith) }
 
-pub returns-in-default : goal.returns-in-default
-returns-in-default c =
+pub returns-in_default : goal.returns-in_default
+returns-in_default c =
     let e : radix_of c.args.rest.now ≡ 10 = grind (arith, nat_tests, get_or_past c.args.rest.now 1 0) in
     record { radix = sym e; digits = sym (digits_all c.args.rest.now e) }

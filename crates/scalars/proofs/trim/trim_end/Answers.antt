@@ -5,20 +5,20 @@ use Rattle.scalars.proofs.trim.trim_end.Goals as goal
 
 pub loop-rest-preserved : goal.loop-rest-preserved
 loop-rest-preserved c =
-    before_more c.args.text.now c.loop-rest.rest.now (search rules) (sym c.if-not-is-blank.ensures) c.loop-rest.invariant
+    before_more c.args.text.now c.loop-rest.rest.now (search rules) (sym c.if-not-is_blank.ensures) c.loop-rest.invariant
 
-pub returns-in-default : goal.returns-in-default
-returns-in-default c = record {
+pub returns-in_default : goal.returns-in_default
+returns-in_default c = record {
   after = c.loop-rest.invariant.0;
   whole = c.loop-rest.invariant.1;
   blanks = c.loop-rest.invariant.2;
   ends = ends_empty c.loop-rest.rest.now (search rules);
 }
 
-pub returns-then-not-is-blank : goal.returns-then-not-is-blank
-returns-then-not-is-blank c = record {
+pub returns-then-not-is_blank : goal.returns-then-not-is_blank
+returns-then-not-is_blank c = record {
   after = c.loop-rest.invariant.0;
   whole = c.loop-rest.invariant.1;
   blanks = c.loop-rest.invariant.2;
-  ends = ends_bare c.loop-rest.rest.now (search rules) (sym c.if-not-is-blank.ensures);
+  ends = ends_bare c.loop-rest.rest.now (search rules) (sym c.if-not-is_blank.ensures);
 }

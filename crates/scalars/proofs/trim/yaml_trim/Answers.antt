@@ -3,4 +3,4 @@ use Rattle.scalars.proofs.Trimming.{trimmed_both}
 use Rattle.scalars.proofs.trim.yaml_trim.Goals as goal
 
 pub returns : goal.returns
-returns c = trimmed_both c.trim-start.ensures c.trim-end.ensures
+returns c = trimmed_both c.trim_start.ensures c.trim_end.ensures

@@ -4,17 +4,17 @@ use Rattle.tape_file.proofs.Parsing.{exit}
 use Rattle.tape_file.proofs.Sequences.{location_lacks_line, location_lacks_column, location_lacks_source, location_whole}
 use Rattle.tape_file.proofs.read.location.Goals as goal
 
-pub returns-in-err-line : goal.returns-in-err-line
-returns-in-err-line c =
-    exit location_words SmallLocation _ _ c.from-residual.result c.from-residual.ensures.0 (location_lacks_line c.in-err-line.ensures)
+pub returns-in_err-line : goal.returns-in_err-line
+returns-in_err-line c =
+    exit location_words SmallLocation _ _ c.from_residual.result c.from_residual.ensures.0 (location_lacks_line c.in_err-line.ensures)
 
-pub returns-in-err-column : goal.returns-in-err-column
-returns-in-err-column c =
-    exit location_words SmallLocation _ _ c.from-residual-in-err-column.result c.from-residual-in-err-column.ensures.0 (location_lacks_column c.in-ok-line.ensures c.in-err-column.ensures)
+pub returns-in_err-column : goal.returns-in_err-column
+returns-in_err-column c =
+    exit location_words SmallLocation _ _ c.from_residual-in_err-column.result c.from_residual-in_err-column.ensures.0 (location_lacks_column c.in_ok-line.ensures c.in_err-column.ensures)
 
-pub returns-in-err-source-id : goal.returns-in-err-source-id
-returns-in-err-source-id c =
-    exit location_words SmallLocation _ _ c.from-residual-in-err-source-id.result c.from-residual-in-err-source-id.ensures.0 (location_lacks_source c.in-ok-line.ensures c.in-ok-column.ensures c.in-err-source-id.ensures)
+pub returns-in_err-source_id : goal.returns-in_err-source_id
+returns-in_err-source_id c =
+    exit location_words SmallLocation _ _ c.from_residual-in_err-source_id.result c.from_residual-in_err-source_id.ensures.0 (location_lacks_source c.in_ok-line.ensures c.in_ok-column.ensures c.in_err-source_id.ensures)
 
 pub returns : goal.returns
-returns c = location_whole c.in-ok-line.ensures c.in-ok-column.ensures c.in-ok-source-id.ensures
+returns c = location_whole c.in_ok-line.ensures c.in_ok-column.ensures c.in_ok-source_id.ensures

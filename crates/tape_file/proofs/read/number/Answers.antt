@@ -7,4 +7,4 @@ use Rattle.tape_file.proofs.read.number.Goals as goal
 
 pub returns : goal.returns
 returns c =
-    from_word decimal Small (λ x y h k. decimal_injective x y (omega arith) (omega arith)) _ _ c.in-ok-next.field-0.now c.number-of.result c.in-ok-next.ensures c.number-of.ensures
+    from_word decimal Small (λ x y h k. decimal_injective x y (omega arith) (omega arith)) _ _ c.in_ok-next.field-0.now c.number_of.result c.in_ok-next.ensures c.number_of.ensures

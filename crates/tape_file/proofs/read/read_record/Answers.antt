@@ -5,14 +5,14 @@ use Rattle.tape_file.proofs.Records.{reads_whole, reads_lacks, reads_more}
 use Rattle.tape_file.proofs.Spacing.{split_some}
 use Rattle.tape_file.proofs.read.read_record.Goals as goal
 
-pub returns-in-err-record : goal.returns-in-err-record
-returns-in-err-record c =
-    reads_lacks c.args.line.now _ c.new-words.ensures c.from-residual.result c.from-residual.ensures.0 c.in-err-record.ensures
+pub returns-in_err-record : goal.returns-in_err-record
+returns-in_err-record c =
+    reads_lacks c.args.line.now _ c.new-words.ensures c.from_residual.result c.from_residual.ensures.0 c.in_err-record.ensures
 
 pub returns-in-None : goal.returns-in-None
 returns-in-None c =
-    reads_whole c.args.line.now _ c.new-words.ensures c.in-ok-record.record _ (ap left c.in-None.is) c.in-ok-record.ensures
+    reads_whole c.args.line.now _ c.new-words.ensures c.in_ok-record.record _ (ap left c.in-None.is) c.in_ok-record.ensures
 
 pub returns-in-Some : goal.returns-in-Some
 returns-in-Some c =
-    reads_more c.args.line.now _ c.new-words.ensures c.in-ok-record.record _ (subst (λ o. 0 < length (left o)) (sym c.in-Some.is) (split_some c.in-Some.field-0.now)) c.in-ok-record.ensures
+    reads_more c.args.line.now _ c.new-words.ensures c.in_ok-record.record _ (subst (λ o. 0 < length (left o)) (sym c.in-Some.is) (split_some c.in-Some.field-0.now)) c.in_ok-record.ensures

@@ -4,17 +4,17 @@ use Rattle.tape_file.proofs.Parsing.{exit}
 use Rattle.tape_file.proofs.Sequences.{record_lacks_location, record_lacks_origin, record_lacks_event, record_whole}
 use Rattle.tape_file.proofs.read.record.Goals as goal
 
-pub returns-in-err-location : goal.returns-in-err-location
-returns-in-err-location c =
-    exit record_words SmallRecord _ _ c.from-residual.result c.from-residual.ensures.0 (record_lacks_location c.in-err-location.ensures)
+pub returns-in_err-location : goal.returns-in_err-location
+returns-in_err-location c =
+    exit record_words SmallRecord _ _ c.from_residual.result c.from_residual.ensures.0 (record_lacks_location c.in_err-location.ensures)
 
-pub returns-in-err-origin : goal.returns-in-err-origin
-returns-in-err-origin c =
-    exit record_words SmallRecord _ _ c.from-residual-in-err-origin.result c.from-residual-in-err-origin.ensures.0 (record_lacks_origin c.in-ok-location.ensures c.in-err-origin.ensures)
+pub returns-in_err-origin : goal.returns-in_err-origin
+returns-in_err-origin c =
+    exit record_words SmallRecord _ _ c.from_residual-in_err-origin.result c.from_residual-in_err-origin.ensures.0 (record_lacks_origin c.in_ok-location.ensures c.in_err-origin.ensures)
 
-pub returns-in-err-event : goal.returns-in-err-event
-returns-in-err-event c =
-    exit record_words SmallRecord _ _ c.from-residual-in-err-event.result c.from-residual-in-err-event.ensures.0 (record_lacks_event c.in-ok-location.ensures c.in-ok-origin.ensures c.in-err-event.ensures)
+pub returns-in_err-event : goal.returns-in_err-event
+returns-in_err-event c =
+    exit record_words SmallRecord _ _ c.from_residual-in_err-event.result c.from_residual-in_err-event.ensures.0 (record_lacks_event c.in_ok-location.ensures c.in_ok-origin.ensures c.in_err-event.ensures)
 
 pub returns : goal.returns
-returns c = record_whole c.in-ok-location.ensures c.in-ok-origin.ensures c.in-ok-event.ensures
+returns c = record_whole c.in_ok-location.ensures c.in_ok-origin.ensures c.in_ok-event.ensures

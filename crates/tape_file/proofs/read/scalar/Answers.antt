@@ -6,17 +6,17 @@ use Rattle.tape_file.proofs.Parsing.{exit, led_lacks, led_whole}
 use Rattle.tape_file.proofs.Sequences.{body_lacks_head, body_lacks_style, body_lacks_place, body_whole}
 use Rattle.tape_file.proofs.read.scalar.Goals as goal
 
-pub returns-in-err-anchor : goal.returns-in-err-anchor
-returns-in-err-anchor c =
-    exit event_words SmallEvent _ _ c.from-residual.result c.from-residual.ensures.0 (led_lacks scalar_leads _ _ _ refl refl (body_lacks_head c.in-err-anchor.ensures))
+pub returns-in_err-anchor : goal.returns-in_err-anchor
+returns-in_err-anchor c =
+    exit event_words SmallEvent _ _ c.from_residual.result c.from_residual.ensures.0 (led_lacks scalar_leads _ _ _ refl refl (body_lacks_head c.in_err-anchor.ensures))
 
-pub returns-in-err-style : goal.returns-in-err-style
-returns-in-err-style c =
-    exit event_words SmallEvent _ _ c.from-residual-in-err-style.result c.from-residual-in-err-style.ensures.0 (led_lacks scalar_leads _ _ _ refl refl (body_lacks_style c.in-ok-anchor.ensures c.in-err-style.ensures))
+pub returns-in_err-style : goal.returns-in_err-style
+returns-in_err-style c =
+    exit event_words SmallEvent _ _ c.from_residual-in_err-style.result c.from_residual-in_err-style.ensures.0 (led_lacks scalar_leads _ _ _ refl refl (body_lacks_style c.in_ok-anchor.ensures c.in_err-style.ensures))
 
-pub returns-in-err-value : goal.returns-in-err-value
-returns-in-err-value c =
-    exit event_words SmallEvent _ _ c.from-residual-in-err-value.result c.from-residual-in-err-value.ensures.0 (led_lacks scalar_leads _ _ _ refl refl (body_lacks_place c.in-ok-anchor.ensures c.in-ok-style.ensures c.in-err-value.ensures))
+pub returns-in_err-value : goal.returns-in_err-value
+returns-in_err-value c =
+    exit event_words SmallEvent _ _ c.from_residual-in_err-value.result c.from_residual-in_err-value.ensures.0 (led_lacks scalar_leads _ _ _ refl refl (body_lacks_place c.in_ok-anchor.ensures c.in_ok-style.ensures c.in_err-value.ensures))
 
 pub returns : goal.returns
-returns c = led_whole scalar_leads _ _ _ refl refl _ _ (body_whole c.in-ok-anchor.ensures c.in-ok-style.ensures c.in-ok-value.ensures)
+returns c = led_whole scalar_leads _ _ _ refl refl _ _ (body_whole c.in_ok-anchor.ensures c.in_ok-style.ensures c.in_ok-value.ensures)

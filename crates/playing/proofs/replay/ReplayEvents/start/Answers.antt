@@ -5,4 +5,4 @@ use Rattle.playing.proofs.Plays.{own_played}
 use Rattle.playing.proofs.replay.ReplayEvents.start.Goals as goal
 
 pub returns : goal.returns
-returns c = same_meaning _ _ refl refl (c.first-location.ensures ∙ sym (own_played c.args.marked c.args.reference (between c.args.at c.args.end c.args.slots.now))) refl refl refl
+returns c = same_meaning _ _ refl refl (c.first_location.ensures ∙ sym (own_played c.args.marked c.args.reference (between c.args.at c.args.end c.args.slots.now))) refl refl refl

@@ -7,11 +7,11 @@ use Rattle.playing.proofs.replay.ReplayEventsEvents.next.Goals as goal
 pub advance-requires : goal.advance-requires
 advance-requires c =
     let m = replay_meaning c.args.self.now in
-    let e : replay_meaning c.peek.new.self ≡ settled (Ok (Some c.in-Some.record)) m = rw c.in-Some.is at c.in-ok-got.ensures.after in
+    let e : replay_meaning c.peek.new.self ≡ settled (Ok (Some c.in-Some.record)) m = rw c.in-Some.is at c.in_ok-got.ensures.after in
     (takes_some c.peek.new.self c.in-Some.record m e).0
 
 pub returns-in-Some : goal.returns-in-Some
 returns-in-Some c =
     let m = replay_meaning c.args.self.now in
-    let e : replay_meaning c.peek.new.self ≡ settled (Ok (Some c.in-Some.record)) m = rw c.in-Some.is at c.in-ok-got.ensures.after in
-    record { answer = cc c.in-ok-got.ensures.answer; after = c.advance.ensures ∙ (takes_some c.peek.new.self c.in-Some.record m e).1 }
+    let e : replay_meaning c.peek.new.self ≡ settled (Ok (Some c.in-Some.record)) m = rw c.in-Some.is at c.in_ok-got.ensures.after in
+    record { answer = cc c.in_ok-got.ensures.answer; after = c.advance.ensures ∙ (takes_some c.peek.new.self c.in-Some.record m e).1 }
