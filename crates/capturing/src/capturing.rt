@@ -49,9 +49,9 @@ fn capture_deferred<S: Events>(
     fill: &mut usize,
     opened: usize,
 ) -> Result<Captured, Refusal>
-    requires defers { (meaning source.old).deferring ≡ true }
+    requires defers { (S.meaning source.old).deferring ≡ true }
     requires filled { fill.old ≤ length slots.old }
-    ensures { Captures (limits_of slots.old fill.old text_len opened (meaning source.old)) (meaning source.old) slots.old fill.old result (meaning source.new) slots.new fill.new }
+    ensures { Captures (limits_of slots.old fill.old text_len opened (S.meaning source.old)) (S.meaning source.old) slots.old fill.old result (S.meaning source.new) slots.new fill.new }
 {
     let first = *fill;
     let deep = depth_left(opened);
@@ -86,7 +86,7 @@ pub fn capture_node<S: Events>(
     opened: usize,
 ) -> Result<Captured, Refusal>
     requires { fill.old ≤ length slots.old }
-    ensures { Captures (limits_of slots.old fill.old text_len opened (meaning source.old)) (meaning source.old) slots.old fill.old result (meaning source.new) slots.new fill.new }
+    ensures { Captures (limits_of slots.old fill.old text_len opened (S.meaning source.old)) (S.meaning source.old) slots.old fill.old result (S.meaning source.new) slots.new fill.new }
 {
     let old = source.defer_recursive_aliases(true);
     let captured = capture_deferred(source, text_len, slots, fill, opened);

@@ -9,9 +9,9 @@ use records::refusal::{Reason, Refusal};
 
 /// Shows the next event, which has to come.
 pub(crate) fn front<S: Events>(source: &mut S) -> Result<Record, Refusal>
-    requires { (meaning source.old).deferring ≡ true }
-    ensures answer { result ≡ first_of (meaning source.old) }
-    ensures after { meaning source.new ≡ meaning source.old }
+    requires { (S.meaning source.old).deferring ≡ true }
+    ensures answer { result ≡ first_of (S.meaning source.old) }
+    ensures after { S.meaning source.new ≡ S.meaning source.old }
 {
     match source.peek()? {
         Some(record) => Ok(record),
@@ -25,8 +25,8 @@ pub(crate) fn front<S: Events>(source: &mut S) -> Result<Record, Refusal>
 
 /// Takes the next event off, if there is one.
 pub(crate) fn take_off<S: Events>(source: &mut S)
-    requires { (meaning source.old).deferring ≡ true }
-    ensures { meaning source.new ≡ past 1 (meaning source.old) }
+    requires { (S.meaning source.old).deferring ≡ true }
+    ensures { S.meaning source.new ≡ past 1 (S.meaning source.old) }
 {
     let _ = source.next();
 }

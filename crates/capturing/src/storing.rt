@@ -18,9 +18,9 @@ pub(crate) fn store_event<S: Events>(
     spot: Spot,
     low: bool,
 ) -> Result<Event, Refusal>
-    requires defers { (meaning source.old).deferring ≡ true }
+    requires defers { (S.meaning source.old).deferring ≡ true }
     requires filled { fill.old ≤ length slots.old }
-    ensures { One spot text_len low (meaning source.old) slots.old fill.old result (meaning source.new) slots.new fill.new }
+    ensures { One spot text_len low (S.meaning source.old) slots.old fill.old result (S.meaning source.new) slots.new fill.new }
 {
     let record = front(source)?;
     let at = *fill;

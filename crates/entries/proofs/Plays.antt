@@ -1,14 +1,14 @@
 -- An entry plays one field, and goes on playing it when more slots are filled.
-use Rattle.std.proofs.Common.{◌≡◌, ℕ, ◌<◌, ◌≤◌, true, List, [], ◌∷◌, ◌++◌, length, drop, sym, ap, ◌∙◌, ap₂, append_assoc, arith}
+use Rattle.std.proofs.Common.{◌≡◌, ℕ, ◌<◌, ◌≤◌, List, [], ◌∷◌, ◌++◌, length, sym, ap, ◌∙◌, append_assoc, arith}
 use lib.Seq.{drop-append-le}
 use Rattle.std.proofs.lemmas.List.{length-drop}
 use Rattle.records.specs.declared.record.Record.{Record}
-use Rattle.nodes.specs.Tree.{Node, flat, size, whole}
+use Rattle.nodes.specs.Tree.{Node, flat}
 use Rattle.nodes.specs.Fields.{Item}
 use Rattle.nodes.proofs.Flats.{flat_append, size_flat, size_some}
 use Rattle.nodes.proofs.Readings.{unique_reading}
 use Rattle.entries.specs.declared.entry.PendingEntry.{PendingEntry}
-use Rattle.entries.specs.Playing.{Names, Plays, AllPlay, node_of_key, EntriesPlayOne, EntriesStay}
+use Rattle.entries.specs.Playing.{Names, Plays, node_of_key, EntriesPlayOne, EntriesStay}
 
 pub names_one : (slots : List Record) (i : ℕ) (t u : Node) → Names slots i t → Names slots i u → t ≡ u
 names_one slots i t u m n = (unique_reading t u m.rest n.rest m.unbroken n.unbroken (sym m.is ∙ n.is)).0

@@ -1,5 +1,5 @@
 -- What an entry plays, over the slots that are filled.
-use Rattle.std.specs.Prelude.{◌≡◌, ℕ, Bool, true, not, List, [], ◌∷◌, ◌++◌, drop}
+use Rattle.std.specs.Prelude.{◌≡◌, ℕ, true, not, List, [], ◌∷◌, ◌++◌, drop}
 use Rattle.records.specs.declared.record.Record.{Record}
 use Rattle.nodes.specs.Tree.{Node, flat, whole}
 use Rattle.nodes.specs.Fields.{Item, resolved}

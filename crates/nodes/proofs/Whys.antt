@@ -6,7 +6,7 @@ use Rattle.records.specs.declared.record.Event.TheVariants.{SeqEnd, MapEnd, Recu
 use Rattle.records.specs.declared.record.Record.{Record}
 use Rattle.records.specs.declared.refusal.Reason.TheVariants.{UnexpectedContainerEnd, RackFull, PlaceOutsideRackText, TooDeep}
 use Rattle.records.specs.Places.{placed}
-use Rattle.nodes.specs.Tree.{Mark, End, Cut, Node, Nodes, Pairs, rec, scalar_event, seq_event, map_event, end_event, flat, flats, flatp, size, whole, no_nodes, no_pairs, Sound, Sounds, Soundp, Reads}
+use Rattle.nodes.specs.Tree.{Mark, End, Cut, Node, Nodes, Pairs, rec, scalar_event, seq_event, map_event, end_event, flat, flats, flatp, size, no_nodes, no_pairs, Sound, Sounds, Soundp, Reads}
 use Rattle.nodes.specs.Tree.End.{seq_end, map_end}
 use Rattle.nodes.specs.Tree.Cut.{ended, stray}
 use Rattle.nodes.specs.Tree.Node.{scalar, alias, seq, dict, cut}

@@ -1,5 +1,5 @@
 -- Collecting from a source, and collecting what was captured from it, agree. Keys are unique where the policy says so.
-use Rattle.std.specs.Prelude.{◌≡◌, Bool, true, false, List, [], ◌∷◌, ◌++◌, None as Nothing, Ok, Err, Result}
+use Rattle.std.specs.Prelude.{◌≡◌, Bool, true, false, List, ◌∷◌, ◌++◌, None as Nothing, Ok, Err, Result}
 use Rattle.records.specs.declared.location.Location.{Location}
 use Rattle.records.specs.declared.options.DuplicateKeyPolicy.TheVariants.{Error}
 use Rattle.records.specs.declared.refusal.Refusal.{Refusal}

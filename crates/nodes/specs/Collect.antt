@@ -1,6 +1,6 @@
 -- What a mapping is collected to, defined once for a node that is held and for one that comes from a source, whole or
 -- broken off.
-use Rattle.std.specs.Prelude.{◌≡◌, ℕ, ◌+◌, ◌-◌, Bool, true, false, cond, ◌&&◌, List, [], ◌∷◌, ◌++◌, length, Some, None as Nothing, Ok, Err, Option, Result, ◌==◌, nat_lt}
+use Rattle.std.specs.Prelude.{ℕ, ◌+◌, ◌-◌, Bool, true, false, cond, ◌&&◌, List, [], ◌∷◌, ◌++◌, length, Some, None as Nothing, Ok, Err, Option, Result, ◌==◌, nat_lt}
 use Rattle.records.specs.declared.location.Location.{Location}
 use Rattle.records.specs.declared.options.MergeKeyPolicy.{MergeKeyPolicy}
 use Rattle.records.specs.declared.options.MergeKeyPolicy.TheVariants.{Merge, AsOrdinary, Error as NoMerges}
@@ -9,13 +9,13 @@ use Rattle.records.specs.declared.refusal.Reason.{Reason}
 use Rattle.records.specs.declared.refusal.Reason.TheVariants.{UnknownAlias, MergeValueNotMapOrSeqOfMaps, MergeKeyNotAllowed, EntriesFull}
 use Rattle.records.specs.declared.refusal.Refusal.{Refusal}
 use Rattle.events.specs.Meaning.{known}
-use Rattle.nodes.specs.Tree.{Mark, Head, Text, Cut, Node, Nodes, Pairs, scalar_event, seq_event, map_event, size, sizep}
+use Rattle.nodes.specs.Tree.{Mark, Node, Nodes, Pairs, scalar_event, seq_event, map_event, size, sizep}
 use Rattle.nodes.specs.Tree.Cut.{ended, stray}
 use Rattle.nodes.specs.Tree.Node.{scalar, alias, seq, dict, cut}
 use Rattle.nodes.specs.Tree.Nodes.{none, more}
 use Rattle.nodes.specs.Tree.Pairs.{done, pair}
 use Rattle.nodes.specs.Reading.{Limits, Bar, refusal, slot_at, place_at, start_at, bars}
-use Rattle.nodes.specs.Fields.{Rules, Basis, Item, resolved, is_merge, null_words, place, reference_at, field_of}
+use Rattle.nodes.specs.Fields.{Rules, Basis, Item, is_merge, null_words, place, reference_at, field_of}
 use Rattle.nodes.specs.Fields.Basis.{expansion}
 use Rattle.nodes.specs.Repeats.{kept_by}
 

@@ -1,14 +1,12 @@
 -- What collecting asks of single nodes, and the fields that it gives.
-use Rattle.std.specs.Prelude.{◌≡◌, ℕ, Bool, true, false, cond, not, ◌&&◌, ◌||◌, List, [], ◌∷◌, ◌++◌, Some, None as Nothing, codes, Option}
+use Rattle.std.specs.Prelude.{ℕ, Bool, true, false, cond, not, ◌&&◌, ◌||◌, List, [], ◌∷◌, Some, None as Nothing, codes, Option}
 use Rattle.records.specs.declared.location.Location.{Location}
 use Rattle.records.specs.declared.location.NodeOrigin.{NodeOrigin}
 use Rattle.records.specs.declared.location.NodeOrigin.TheVariants.{Direct, Alias, Merge}
 use Rattle.records.specs.declared.options.MergeKeyPolicy.{MergeKeyPolicy}
 use Rattle.records.specs.declared.options.DuplicateKeyPolicy.{DuplicateKeyPolicy}
 use Rattle.records.specs.declared.record.Place.{Place}
-use Rattle.records.specs.declared.record.ScalarStyle.{ScalarStyle}
 use Rattle.records.specs.declared.record.ScalarStyle.TheVariants.{Plain}
-use Rattle.records.specs.declared.tags.SfTag.{SfTag}
 use Rattle.records.specs.declared.tags.SfTag.TheVariants.{None, Null, Binary, Merge as MergeTag}
 use Rattle.records.specs.Tags.{core, forced, stringy, same_tag}
 use Rattle.records.specs.Blank.{unknown}
@@ -16,12 +14,12 @@ use Rattle.scalars.specs.Typed.{plain}
 use Rattle.scalars.specs.Computed.{null_text, equal_bytes}
 use Rattle.events.specs.Meaning.{refers}
 use Rattle.events.specs.View.{bytes_at}
-use Rattle.nodes.specs.Tree.{Mark, Head, Text, Cut, Node, Nodes, Pairs}
+use Rattle.nodes.specs.Tree.{Mark, Text, Cut, Node, Nodes, Pairs}
 use Rattle.nodes.specs.Tree.Cut.{ended, stray}
 use Rattle.nodes.specs.Tree.Node.{scalar, alias, seq, dict, cut}
 use Rattle.nodes.specs.Tree.Nodes.{none, more}
 use Rattle.nodes.specs.Tree.Pairs.{done, pair}
-use Rattle.nodes.specs.Prints.{Print, print}
+use Rattle.nodes.specs.Prints.{print}
 use Rattle.nodes.specs.Alike.{alike}
 
 -- the policies, the known anchors, the bytes of the text, and how many entries there is room for

@@ -10,7 +10,7 @@ use Rattle.records.specs.declared.refusal.Reason.TheVariants.{Eof, UnexpectedCon
 use Rattle.records.specs.declared.refusal.Refusal.{Refusal}
 use Rattle.records.specs.Places.{placed}
 use Rattle.events.specs.Meaning.{Meaning, Close, Plain, Fault}
-use Rattle.nodes.specs.Tree.{Mark, Head, Text, End, Cut, Node, Nodes, Pairs, rec, scalar_event, seq_event, map_event, end_event, flat, size, depth, whole, Inside, Sound, Reads}
+use Rattle.nodes.specs.Tree.{Mark, Cut, Node, Nodes, Pairs, scalar_event, seq_event, map_event, flat, size, depth, whole, Inside, Reads}
 use Rattle.nodes.specs.Tree.Cut.{ended, stray}
 use Rattle.nodes.specs.Tree.Node.{scalar, alias, seq, dict, cut}
 use Rattle.nodes.specs.Tree.Nodes.{none, more}

@@ -1,5 +1,5 @@
 -- What the policies for repeated keys keep of the fields of a mapping.
-use Rattle.std.specs.Prelude.{◌≡◌, ℕ, Bool, true, false, cond, List, [], ◌∷◌, ◌++◌, reverse, Some, None as Nothing, Ok, Err, Option, Result}
+use Rattle.std.specs.Prelude.{◌≡◌, ℕ, true, false, cond, List, [], ◌∷◌, ◌++◌, reverse, Some, None as Nothing, Ok, Err, Option, Result}
 use Rattle.records.specs.declared.location.Location.{Location}
 use Rattle.records.specs.declared.options.MergeKeyPolicy.{MergeKeyPolicy}
 use Rattle.records.specs.declared.options.MergeKeyPolicy.TheVariants.{Merge, AsOrdinary, Error as NoMerges}
@@ -8,7 +8,7 @@ use Rattle.records.specs.declared.options.DuplicateKeyPolicy.TheVariants.{Error,
 use Rattle.records.specs.declared.refusal.Reason.TheVariants.{MergeKeyNotAllowed, DuplicateMappingKey}
 use Rattle.records.specs.declared.refusal.Refusal.{Refusal}
 use Rattle.nodes.specs.Reading.{refusal}
-use Rattle.nodes.specs.Fields.{Rules, Item, same_key, has_key, key_text, place, merge_in, or_then}
+use Rattle.nodes.specs.Fields.{Item, has_key, key_text, place, merge_in, or_then}
 
 -- the fields with no alike key before them, where `seen` stands before all; and the others
 abbrev pub firsts : List ℕ → List Item → List Item → List Item

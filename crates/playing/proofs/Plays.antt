@@ -1,5 +1,5 @@
 -- What stands at the front of a playback, what is left of it one slot on, and how a node is played.
-use Rattle.std.proofs.Common.{◌≡◌, ℕ, zero, suc, ◌+◌, ◌<◌, ◌≤◌, min, Bool, true, false, not, ◌||◌, List, [], ◌∷◌, map, length, get_or, take, drop, Some, None, Ok, Option, sym, refl, ap, ◌∙◌, ⊎_elim, arith}
+use Rattle.std.proofs.Common.{◌≡◌, ℕ, zero, suc, ◌+◌, ◌<◌, ◌≤◌, min, Bool, true, false, not, ◌||◌, List, [], ◌∷◌, length, get_or, take, drop, Some, None, Ok, Option, refl, ap, ◌∙◌, ⊎_elim, arith}
 use Rattle.std.proofs.lemmas.List.{drop_more, drop_all, drop-take, length-take, get_or-take}
 use Rattle.std.proofs.lemmas.Bool.{cases_lt, false≢true}
 use Rattle.records.specs.declared.location.Location.{Location}
@@ -16,7 +16,7 @@ use Rattle.nodes.specs.Tree.Node.{scalar, alias, seq, dict, cut}
 use Rattle.nodes.specs.Fields.{resolved as read}
 use Rattle.nodes.proofs.Flats.{take_flat}
 use Rattle.playing.specs.declared.replay.ReplayEvents.{ReplayEvents}
-use Rattle.playing.specs.Replay.{between, first_of, played_as, played, past_with, replay_meaning, onward, play_from, PlaysNode}
+use Rattle.playing.specs.Replay.{between, first_of, played_as, played, replay_meaning, onward, play_from, PlaysNode}
 
 -- the record at a slot
 pub first_some : (i e : ℕ) (slots : List Record) → i < min (length slots) e → first_of (between i e slots) ≡ Some (get_or slots i blank)

@@ -1,4 +1,4 @@
-use Rattle.std.proofs.Common.{◌≡◌, [], map, refl}
+use Rattle.std.proofs.Common.{[], map, refl}
 use Rattle.records.specs.declared.location.NodeOrigin.TheVariants.{Merge}
 use Rattle.nodes.specs.Tree.{flat}
 use Rattle.nodes.specs.Looking.{played_with}
