@@ -2,7 +2,7 @@
 use Rattle.std.proofs.Common.{◌≡◌, ℕ, ◌+◌, ◌-◌, ◌<◌, ◌≤◌, Bool, true, false, cond, not, ◌||◌, ◌⊎◌, List, [], ◌∷◌, ◌++◌, length, get_or, drop, Some, None, Ok, Err, Option, Result, sym, refl, ap, ◌∙◌, subst, inl, inr, ⊎_elim, arith}
 use Rattle.std.proofs.lemmas.List.{at_drop_more, at_drop_all, drop_more}
 use Rattle.std.proofs.lemmas.Bool.{cases_lt}
-use Rattle.std.specs.List.{AllByRecursion as All}
+use Rattle.std.specs.List.{AllByRecursion}
 use Rattle.records.specs.declared.location.Location.{Location}
 use Rattle.records.specs.declared.location.NodeOrigin.TheVariants.{Direct}
 use Rattle.records.specs.declared.record.Record.{Record}
@@ -76,7 +76,7 @@ peeks s x y p q = peek_front s.deferring s.resolved s.anchors.now (ends (length 
 -- a tape's events and close, by its first faulty record
 module _ (n : ℕ) where
   abbrev Sound : List Record → Type 0
-  Sound rs = All (λ r. placed n r.event ≡ true) rs
+  Sound rs = AllByRecursion (λ r. placed n r.event ≡ true) rs
 
   -- records of which the first is the i-th of its tape
   abbrev Split : ℕ → List Record → List Record → Close → Type 0

@@ -1,6 +1,6 @@
 -- What a tape reader means.
 use Rattle.std.specs.Prelude.{◌≡◌, ℕ, ◌+◌, ◌<◌, ◌≤◌, Bool, true, false, cond, not, ◌||◌, ◌⊎◌, List, [], ◌∷◌, ◌++◌, length, drop, Ok, Err, Result}
-use Rattle.std.specs.List.{AllByRecursion as All}
+use Rattle.std.specs.List.{AllByRecursion}
 use Rattle.records.specs.declared.location.Location.{Location}
 use Rattle.records.specs.declared.location.NodeOrigin.TheVariants.{Direct}
 use Rattle.records.specs.declared.record.Record.{Record}
@@ -75,8 +75,8 @@ NotMade records bytes e = ((65536 < records) × (e ≡ at_making TapeTooLong)) �
 -- first that is not placed, and it closes with the fault of that record.
 abbrev pub FirstFault : ℕ → List Record → List Record → Close → Type 0
 FirstFault n tape es c =
-    ((es ≡ tape) × (c ≡ Plain) × All (λ r. placed n r.event ≡ true) tape)
-    ⊎ ((bad : Record) × (rest : List Record) × (tape ≡ es ++ bad ∷ rest) × (c ≡ Fault (fault_at (length es))) × (placed n bad.event ≡ false) × All (λ r. placed n r.event ≡ true) es)
+    ((es ≡ tape) × (c ≡ Plain) × AllByRecursion (λ r. placed n r.event ≡ true) tape)
+    ⊎ ((bad : Record) × (rest : List Record) × (tape ≡ es ++ bad ∷ rest) × (c ≡ Fault (fault_at (length es))) × (placed n bad.event ≡ false) × AllByRecursion (λ r. placed n r.event ≡ true) es)
 
 -- a reader as it is made
 pub record Fresh (text : List ℕ) (tape : List Record) (ks : List ℕ) (s : TapeReader) : Type 0 where

@@ -1,6 +1,6 @@
 -- A node is barred by nothing exactly where it is whole and fits.
 use Rattle.std.proofs.Common.{◌≡◌, ℕ, ◌+◌, ◌-◌, ◌<◌, ◌≤◌, Bool, true, false, cond, ltb, List, [], Some, None, Option, refl, ap₂, arith}
-use Rattle.std.specs.List.{AllByRecursion as All}
+use Rattle.std.specs.List.{AllByRecursion}
 use Rattle.std.proofs.lemmas.Bool.{false≢true, ltb-true, lt-ltb, and_parts, and_from, cond-true}
 use Rattle.records.specs.declared.record.Event.{Event}
 use Rattle.records.specs.declared.record.Record.{Record}
@@ -59,7 +59,7 @@ module _ (l : Limits) where
     pub whole : unbroken ≡ true
     pub short : i + size ≤ l.room
     pub low : depth ≤ d
-    pub inside : (r : List Record) → All Lies r → All Lies (flat r)
+    pub inside : (r : List Record) → AllByRecursion Lies r → AllByRecursion Lies (flat r)
 
   mutual
     pub passed : (d i : ℕ) (t : Node) → bars l d i t ≡ None → Passed d i (whole t) (size t) (depth t) (flat t)
@@ -100,7 +100,7 @@ module _ (l : Limits) where
 
   -- and nothing bars such a node
   mutual
-    pub unbarred : (d i : ℕ) (t : Node) (r : List Record) → whole t ≡ true → i + size t ≤ l.room → depth t ≤ d → All Lies (flat t r) → (bars l d i t ≡ None) × All Lies r
+    pub unbarred : (d i : ℕ) (t : Node) (r : List Record) → whole t ≡ true → i + size t ≤ l.room → depth t ≤ d → AllByRecursion Lies (flat t r) → (bars l d i t ≡ None) × AllByRecursion Lies r
     unbarred d i (scalar k x) r w s h p = (neither_from _ _ (slot_from i k (omega arith)) (place_from i k (scalar_event x) p.0), p.1)
     unbarred d i (alias k a) r w s h p = (slot_from i k (omega arith), p.1)
     unbarred d i (seq k h' ns) r w s h p =
@@ -111,7 +111,7 @@ module _ (l : Limits) where
         (neither_from _ _ (start_from d i k (map_event h') (omega arith) p.0 (omega arith)) a, b)
     unbarred d i (cut c) r w s h p = absurd (false≢true w)
 
-    pub unbarreds : (d i : ℕ) (ns : Nodes) (r : List Record) → wholes ns ≡ true → i + sizes ns ≤ l.room → depths ns ≤ d → All Lies (flats ns r) → (barss l d i ns ≡ None) × All Lies r
+    pub unbarreds : (d i : ℕ) (ns : Nodes) (r : List Record) → wholes ns ≡ true → i + sizes ns ≤ l.room → depths ns ≤ d → AllByRecursion Lies (flats ns r) → (barss l d i ns ≡ None) × AllByRecursion Lies r
     unbarreds d i (none k) r w s h p = (slot_from i k (omega arith), p.1)
     unbarreds d i (more n ns) r w s h p =
         let (u, v) = and_parts (whole n) (wholes ns) w in
@@ -119,7 +119,7 @@ module _ (l : Limits) where
         let (b, z) = unbarreds d (i + size n) ns r v (omega arith) (omega arith) q in
         (neither_from _ _ a b, z)
 
-    pub unbarredp : (d i : ℕ) (ps : Pairs) (r : List Record) → wholep ps ≡ true → i + sizep ps ≤ l.room → depthp ps ≤ d → All Lies (flatp ps r) → (barsp l d i ps ≡ None) × All Lies r
+    pub unbarredp : (d i : ℕ) (ps : Pairs) (r : List Record) → wholep ps ≡ true → i + sizep ps ≤ l.room → depthp ps ≤ d → AllByRecursion Lies (flatp ps r) → (barsp l d i ps ≡ None) × AllByRecursion Lies r
     unbarredp d i (done k) r w s h p = (slot_from i k (omega arith), p.1)
     unbarredp d i (pair k v ps) r w s h p =
         let (u, w') = and_parts (whole k) _ w in

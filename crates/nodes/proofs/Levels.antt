@@ -2,7 +2,7 @@
 use Rattle.std.proofs.Common.{◌≡◌, ℕ, suc, ◌+◌, ◌-◌, ◌<◌, ◌≤◌, true, List, [], ◌∷◌, ◌++◌, length, take, None, sym, refl, ap, ◌∙◌, subst, ⊎_elim, append_assoc, arith}
 use mathlib.Core.Path.{subst₃}
 use lib.Seq.{take-nil}
-use Rattle.std.specs.List.{AllByRecursion as All}
+use Rattle.std.specs.List.{AllByRecursion}
 use Rattle.std.proofs.lemmas.List.{length_push, take-append-le, take_all}
 use Rattle.std.proofs.ByRecursion.{All-push}
 use Rattle.std.proofs.lemmas.Bool.{cases_lt}
@@ -26,7 +26,7 @@ module _ (l : Limits) where
   pub record Within (d i : ℕ) (front : List Record) : Type 0 where
     pub count : length front ≡ i
     pub short : i ≤ l.room
-    pub inside : All (λ r. placed l.text r.event ≡ true) front
+    pub inside : AllByRecursion (λ r. placed l.text r.event ≡ true) front
     pub low : (n : ℕ) → opened (take n front) ≤ l.deep
     pub level : opened front + d ≡ l.deep
 

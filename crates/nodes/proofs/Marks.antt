@@ -1,6 +1,6 @@
 -- What a mapping is collected to: its own fields, which are not marked as merged, and merged ones, which are.
 use Rattle.std.proofs.Common.{◌≡◌, ℕ, ◌+◌, Bool, true, false, ltb, List, [], ◌∷◌, ◌++◌, reverse, length, Some, None as Nothing, Ok, Option, Result, sym, refl, ap, ◌∙◌, subst}
-use Rattle.std.specs.List.{AllByRecursion as All}
+use Rattle.std.specs.List.{AllByRecursion}
 use Rattle.std.proofs.ByRecursion.{All-append}
 use Rattle.std.proofs.lemmas.Bool.{cond_both}
 use Rattle.records.specs.declared.location.Location.{Location}
@@ -27,41 +27,41 @@ use Rattle.nodes.proofs.Keeping.{error_at_first_repeat}
 
 -- what holds of each field holds of each that is kept
 module _ (P : Item → Type 0) where
-  pub all_firsts : (text : List ℕ) (seen es : List Item) → All P es → All P (firsts text seen es)
+  pub all_firsts : (text : List ℕ) (seen es : List Item) → AllByRecursion P es → AllByRecursion P (firsts text seen es)
   all_firsts text seen [] h = tt
-  all_firsts text seen (e ∷ es) h = let r = all_firsts text (seen ++ e ∷ []) es h.1 in cond_both (has_key text e seen) _ _ (All P) (λ p. r) (λ p. (h.0, r))
+  all_firsts text seen (e ∷ es) h = let r = all_firsts text (seen ++ e ∷ []) es h.1 in cond_both (has_key text e seen) _ _ (AllByRecursion P) (λ p. r) (λ p. (h.0, r))
 
-  pub all_lasts : (text : List ℕ) (es : List Item) → All P es → All P (lasts text es)
+  pub all_lasts : (text : List ℕ) (es : List Item) → AllByRecursion P es → AllByRecursion P (lasts text es)
   all_lasts text [] h = tt
-  all_lasts text (e ∷ es) h = let r = all_lasts text es h.1 in cond_both (has_key text e es) _ _ (All P) (λ p. r) (λ p. (h.0, r))
+  all_lasts text (e ∷ es) h = let r = all_lasts text es h.1 in cond_both (has_key text e es) _ _ (AllByRecursion P) (λ p. r) (λ p. (h.0, r))
 
-  all_repeat : (es : List Item) (o : Option Item) → All P es → Gives (refuse_repeat es o) (All P)
-  all_repeat es Nothing h = gives_ok (All P) es h
-  all_repeat es (Some e) h = gives_err (All P) _
+  all_repeat : (es : List Item) (o : Option Item) → AllByRecursion P es → Gives (refuse_repeat es o) (AllByRecursion P)
+  all_repeat es Nothing h = gives_ok (AllByRecursion P) es h
+  all_repeat es (Some e) h = gives_err (AllByRecursion P) _
 
-  all_merge : (es : List Item) (o : Option Location) → All P es → Gives (refuse_merge es o) (All P)
-  all_merge es Nothing h = gives_ok (All P) es h
-  all_merge es (Some l) h = gives_err (All P) _
+  all_merge : (es : List Item) (o : Option Location) → AllByRecursion P es → Gives (refuse_merge es o) (AllByRecursion P)
+  all_merge es Nothing h = gives_ok (AllByRecursion P) es h
+  all_merge es (Some l) h = gives_err (AllByRecursion P) _
 
-  all_dropping : (m : MergeKeyPolicy) (text : List ℕ) (es dropped : List Item) → All P es → Gives (dropping m text es dropped) (All P)
-  all_dropping Merge text es dropped h = gives_ok (All P) es h
-  all_dropping AsOrdinary text es dropped h = gives_ok (All P) es h
+  all_dropping : (m : MergeKeyPolicy) (text : List ℕ) (es dropped : List Item) → AllByRecursion P es → Gives (dropping m text es dropped) (AllByRecursion P)
+  all_dropping Merge text es dropped h = gives_ok (AllByRecursion P) es h
+  all_dropping AsOrdinary text es dropped h = gives_ok (AllByRecursion P) es h
   all_dropping NoMerges text es dropped h = all_merge es (searched text dropped) h
 
-  pub all_kept : (p : DuplicateKeyPolicy) (m : MergeKeyPolicy) (text : List ℕ) (es : List Item) → All P es → Gives (kept_by p m text es) (All P)
+  pub all_kept : (p : DuplicateKeyPolicy) (m : MergeKeyPolicy) (text : List ℕ) (es : List Item) → AllByRecursion P es → Gives (kept_by p m text es) (AllByRecursion P)
   all_kept Error m text es h = all_repeat es (head (not_firsts text [] es)) h
   all_kept FirstWins m text es h = all_dropping m text (firsts text [] es) (not_firsts text [] es) (all_firsts text [] es h)
   all_kept LastWins m text es h = all_dropping m text (lasts text es) (reverse (not_lasts text es)) (all_lasts text es h)
 
-  pub all_at : (es : List Item) → All P es → (a b : List Item) (e : Item) → es ≡ a ++ e ∷ b → P e
-  all_at es h a b e p = go a (subst (All P) p h)
+  pub all_at : (es : List Item) → AllByRecursion P es → (a b : List Item) (e : Item) → es ≡ a ++ e ∷ b → P e
+  all_at es h a b e p = go a (subst (AllByRecursion P) p h)
     where
-      go : (a : List Item) → All P (a ++ e ∷ b) → P e
+      go : (a : List Item) → AllByRecursion P (a ++ e ∷ b) → P e
       go [] h = h.0
       go (x ∷ a) h = go a h.1
 
 abbrev pub Marked : Bool → List Item → Type 0
-Marked q es = All (λ e. e.merged ≡ q) es
+Marked q es = AllByRecursion (λ e. e.merged ≡ q) es
 
 -- the own fields are marked by the basis, and what is brought is merged
 pub record Parted (b : Basis) (g : Gathered) : Type 0 where

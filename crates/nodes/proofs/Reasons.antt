@@ -1,7 +1,7 @@
 -- A reading breaks off for one reason only, and never where the events begin with a node that fits.
 use Rattle.std.proofs.Common.{◌≡◌, ℕ, suc, ◌+◌, ◌<◌, ◌≤◌, true, false, List, [], ◌∷◌, ◌++◌, length, take, Some, None, Option, sym, refl, ap, ◌∙◌, subst, subst₂, append_assoc, append-nil, arith, length-append}
 use lib.Seq.{take-append-add}
-use Rattle.std.specs.List.{AllByRecursion as All}
+use Rattle.std.specs.List.{AllByRecursion}
 use Rattle.std.proofs.lemmas.Bool.{false≢true, both_ways}
 use Rattle.records.specs.declared.record.Event.{Event}
 use Rattle.records.specs.declared.record.Event.TheVariants.{Scalar, SeqStart, SeqEnd, MapStart, MapEnd, RecursiveAlias}
@@ -80,7 +80,7 @@ one_cause l front rest b c (too_deep g h p t o) (too_deep g' h' p' t' o') = refl
 record Went (l : Limits) (xs : List Record) : Type 0 where
   begins : Begins xs
   short : length xs ≤ l.room
-  inside : All (λ r. placed l.text r.event ≡ true) xs
+  inside : AllByRecursion (λ r. placed l.text r.event ≡ true) xs
   low : (n : ℕ) → opened (take n xs) ≤ l.deep
 
 begins_front : (front q : List Record) (r : Record) → Begins (front ++ r ∷ q) → Begins (front ++ r ∷ [])
@@ -89,7 +89,7 @@ begins_front front q r b = let (u, m, w, e) = b in (u, q ++ m, w, e ∙ append_a
 begins_less : (xs ys : List Record) → Begins (xs ++ ys) → Begins xs
 begins_less xs ys b = let (u, m, w, e) = b in (u, ys ++ m, w, e ∙ append_assoc xs ys m)
 
-all_at : (P : Record → Type 0) (xs : List Record) (r : Record) (ys : List Record) → All P (xs ++ r ∷ ys) → P r
+all_at : (P : Record → Type 0) (xs : List Record) (r : Record) (ys : List Record) → AllByRecursion P (xs ++ r ∷ ys) → P r
 all_at P [] r ys h = h.0
 all_at P (x ∷ xs) r ys h = all_at P xs r ys h.1
 

@@ -1,6 +1,6 @@
 -- Reading one node within limits: what bars it, and what that means.
 use Rattle.std.specs.Prelude.{◌≡◌, ℕ, suc, ◌+◌, ◌-◌, ◌<◌, ◌≤◌, Bool, true, false, cond, ◌↔◌, List, [], ◌∷◌, ◌++◌, length, take, Some, None, Option, nat_lt}
-use Rattle.std.specs.List.{AllByRecursion as All}
+use Rattle.std.specs.List.{AllByRecursion}
 use Rattle.records.specs.declared.location.Location.{Location}
 use Rattle.records.specs.declared.record.Event.{Event}
 use Rattle.records.specs.declared.record.Event.TheVariants.{Scalar, SeqStart, SeqEnd, MapStart, MapEnd, RecursiveAlias}
@@ -141,7 +141,7 @@ is_end (RecursiveAlias a) = false
 pub record SoFar (l : Limits) (front : List Record) : Type 0 where
   pub begun : (r : Record) × Begins (front ++ r ∷ [])
   pub short : length front ≤ l.room
-  pub inside : All (λ r. placed l.text r.event ≡ true) front
+  pub inside : AllByRecursion (λ r. placed l.text r.event ≡ true) front
   pub low : (n : ℕ) → opened (take n front) ≤ l.deep
 
 -- why a reading of the events breaks off, in the subject's terms

@@ -1,6 +1,6 @@
 -- Nodes as trees of records, and how they are written out. A tree may break off, on its right edge.
 use Rattle.std.specs.Prelude.{◌≡◌, ℕ, suc, ◌+◌, max, Bool, true, false, cond, ◌&&◌, List, [], ◌∷◌, Option}
-use Rattle.std.specs.List.{AllByRecursion as All}
+use Rattle.std.specs.List.{AllByRecursion}
 use Rattle.records.specs.declared.location.Location.{Location}
 use Rattle.records.specs.declared.location.NodeOrigin.{NodeOrigin}
 use Rattle.records.specs.declared.tags.SfTag.{SfTag}
@@ -148,7 +148,7 @@ abbrev mutual
 
 -- each place of a node lies in a text of n bytes
 abbrev pub Inside : ℕ → Node → Type 0
-Inside n t = All (λ r. placed n r.event ≡ true) (flat t [])
+Inside n t = AllByRecursion (λ r. placed n r.event ≡ true) (flat t [])
 
 -- an end that closes its own container is not read as one that is out of place
 abbrev pub cut_by : End → Cut → Bool

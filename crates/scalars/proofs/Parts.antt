@@ -1,6 +1,6 @@
 -- The parts of a spelled integer are those that the code finds.
 use Rattle.std.proofs.Common.{◌≡◌, ℕ, ◌<◌, ◌≤◌, Bool, true, not, ◌&&◌, eqb, List, ◌++◌, get_or, sym, refl, ap, ◌∙◌, subst, arith, lit≤}
-use Rattle.std.specs.List.{AllByRecursion as All}
+use Rattle.std.specs.List.{AllByRecursion}
 use Rattle.std.proofs.ByRecursion.{All-append, All-weaker}
 use Rattle.scalars.specs.Class.{class_of}
 use Rattle.scalars.specs.Radices.{radix_of, digits_of}
@@ -34,12 +34,12 @@ prefix_small small_b = lit≤ tt
 prefix_small large_b = lit≤ tt
 
 -- no blank stands in a sign, a prefix or digits
-sign_bare : {s : List ℕ} {m : Bool} → Sign s m → All Bare s
+sign_bare : {s : List ℕ} {m : Bool} → Sign s m → AllByRecursion Bare s
 sign_bare no_sign = tt
 sign_bare plus = (refl, tt)
 sign_bare minus = (refl, tt)
 
-prefix_bare : {p : List ℕ} {radix : ℕ} → Prefix p radix → All Bare p
+prefix_bare : {p : List ℕ} {radix : ℕ} → Prefix p radix → AllByRecursion Bare p
 prefix_bare decimal = tt
 prefix_bare small_x = (refl, (refl, tt))
 prefix_bare large_x = (refl, (refl, tt))

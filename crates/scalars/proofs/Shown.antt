@@ -1,6 +1,6 @@
 -- The examples: antt reads the digits of each.
 use Rattle.std.proofs.Common.{◌≡◌, ℕ, Bool, true, false, not, ◌&&◌, eqb, List, [], ◌∷◌, ◌++◌, length, get_or, codes, sym, refl, ap, subst, append-nil, arith, lit≤}
-use Rattle.std.specs.List.{AllByRecursion as All}
+use Rattle.std.specs.List.{AllByRecursion}
 use Rattle.std.proofs.lemmas.List.{nil_from_length}
 use Rattle.std.proofs.lemmas.Bool.{and_parts, not-true}
 use Rattle.scalars.specs.Examples.{IntegerExamples}
@@ -39,7 +39,7 @@ abbrev bare : List ℕ → Bool
 bare [] = true
 bare (b ∷ bs) = not (blank b) && bare bs
 
-all_bare : (t : List ℕ) → bare t ≡ true → All Bare t
+all_bare : (t : List ℕ) → bare t ≡ true → AllByRecursion Bare t
 all_bare [] e = tt
 all_bare (b ∷ t) e =
     let (h, k) = and_parts (not (blank b)) (bare t) e in

@@ -1,6 +1,6 @@
 -- Blanks are dropped one by one, and one text only is left at the end.
 use Rattle.std.proofs.Common.{◌≡◌, ℕ, ◌+◌, ◌-◌, ◌<◌, Bool, true, false, cond, List, [], ◌∷◌, ◌++◌, length, get_or, take, drop, sym, refl, ap, ◌∙◌, subst, ap₂, append_assoc, arith}
-use Rattle.std.specs.List.{AllByRecursion as All}
+use Rattle.std.specs.List.{AllByRecursion}
 use Rattle.std.proofs.ByRecursion.{All-push, All-append}
 use Rattle.std.proofs.lemmas.List.{take_all, take_more, take_rest, length_push, same_from_push}
 use Rattle.std.proofs.lemmas.Bool.{both_ways}
@@ -43,11 +43,11 @@ ends_bare r h f b xs e =
     let same = same_from_push xs (take (length r - 1) r) b (get_or r (length r - 1) 0) (sym e ∙ last_split r h) in
     ap blank same.1 ∙ f
 
-all_left : (P : ℕ → Type 0) (xs ys : List ℕ) → All P (xs ++ ys) → All P xs
+all_left : (P : ℕ → Type 0) (xs ys : List ℕ) → AllByRecursion P (xs ++ ys) → AllByRecursion P xs
 all_left P [] ys h = tt
 all_left P (x ∷ xs) ys (h, hs) = (h, all_left P xs ys hs)
 
-all_right : (P : ℕ → Type 0) (xs ys : List ℕ) → All P (xs ++ ys) → All P ys
+all_right : (P : ℕ → Type 0) (xs ys : List ℕ) → AllByRecursion P (xs ++ ys) → AllByRecursion P ys
 all_right P [] ys h = h
 all_right P (x ∷ xs) ys (h, hs) = all_right P xs ys hs
 
@@ -106,7 +106,7 @@ trimmed_unique (b ∷ r) (b' ∷ r') d d' =
     (sym d.whole ∙ d'.whole))
 
 -- a text with no blank in it is trimmed, whatever blanks stand around it
-pub trimmed_bare : (before r after : List ℕ) → Blanks before → Blanks after → All Bare r → Trimmed (before ++ (r ++ after)) r
+pub trimmed_bare : (before r after : List ℕ) → Blanks before → Blanks after → AllByRecursion Bare r → Trimmed (before ++ (r ++ after)) r
 trimmed_bare before r after blanks-b blanks-a bare = record {
   before = before;
   after = after;
@@ -117,11 +117,11 @@ trimmed_bare before r after blanks-b blanks-a bare = record {
   ends = λ b rest e. let (h, hs) = at_end b rest e in h;
 }
   where
-    at_front : (b : ℕ) (rest : List ℕ) → r ≡ b ∷ rest → All Bare (b ∷ rest)
-    at_front b rest e = subst (All Bare) e bare
+    at_front : (b : ℕ) (rest : List ℕ) → r ≡ b ∷ rest → AllByRecursion Bare (b ∷ rest)
+    at_front b rest e = subst (AllByRecursion Bare) e bare
 
-    at_end : (b : ℕ) (rest : List ℕ) → r ≡ rest ++ (b ∷ []) → All Bare (b ∷ [])
-    at_end b rest e = all_right Bare rest (b ∷ []) (subst (All Bare) e bare)
+    at_end : (b : ℕ) (rest : List ℕ) → r ≡ rest ++ (b ∷ []) → AllByRecursion Bare (b ∷ [])
+    at_end b rest e = all_right Bare rest (b ∷ []) (subst (AllByRecursion Bare) e bare)
 
 -- trimmed at the front and then at the end
 pub trimmed_both : {t s r : List ℕ} → TrimmedStart t s → TrimmedEnd s r → Trimmed t r

@@ -1,13 +1,13 @@
 -- A text without the blanks at its ends.
 use Rattle.std.specs.Prelude.{◌≡◌, ℕ, Bool, true, false, ◌||◌, List, [], ◌∷◌, ◌++◌, ◌==◌}
-use Rattle.std.specs.List.{AllByRecursion as All}
+use Rattle.std.specs.List.{AllByRecursion}
 
 -- blank, tab, carriage return, line feed
 abbrev pub blank : ℕ → Bool
 blank b = b == 32 || (b == 9 || (b == 13 || b == 10))
 
 abbrev pub Blanks : List ℕ → Type 0
-Blanks bs = All (λ b. blank b ≡ true) bs
+Blanks bs = AllByRecursion (λ b. blank b ≡ true) bs
 
 abbrev pub BeginsBare : List ℕ → Type 0
 BeginsBare r = (b : ℕ) (rest : List ℕ) → r ≡ b ∷ rest → blank b ≡ false

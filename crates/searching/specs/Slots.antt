@@ -1,6 +1,6 @@
 -- What walking over slots goes by: how far it comes, what is a merge key, and what a search answers.
 use Rattle.std.specs.Prelude.{◌≡◌, ℕ, ◌+◌, ◌-◌, ◌≤◌, Bool, true, false, List, [], length, drop, Some, None as Nothing, Ok, Err, Option, Result}
-use Rattle.std.specs.List.{AllByRecursion as All}
+use Rattle.std.specs.List.{AllByRecursion}
 use Rattle.records.specs.declared.location.Location.{Location}
 use Rattle.records.specs.declared.record.Record.{Record}
 use Rattle.records.specs.Places.{placed}
@@ -20,7 +20,7 @@ merge_seen (Some v) = merge_key v
 
 -- each place of some records lies in a text of n bytes
 abbrev pub Placed : ℕ → List Record → Type 0
-Placed n rs = All (λ r. placed n r.event ≡ true) rs
+Placed n rs = AllByRecursion (λ r. placed n r.event ≡ true) rs
 
 -- the answer of a search that goes on to slot n where nothing is found
 abbrev pub sought : ℕ → Option Location → Result ℕ Location
