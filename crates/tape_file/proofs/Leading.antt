@@ -1,13 +1,11 @@
--- Each origin, raw tag and event by the word that it begins with.
-use Rattle.std.proofs.Common.{◌≡◌, ℕ, cond, List, [], ◌∷◌, ◌++◌, Some, None, codes, decimal, Option, sym, refl, ap, subst}
+-- Each event by the word that it begins with.
+use Rattle.std.proofs.Common.{◌≡◌, ℕ, cond, List, [], ◌∷◌, ◌++◌, codes, decimal, sym, refl, ap, subst}
 use Rattle.std.specs.Str.{bytes_eq}
-use Rattle.records.specs.declared.location.NodeOrigin.{NodeOrigin}
-use Rattle.records.specs.declared.location.NodeOrigin.TheVariants.{Direct, Alias, Merge}
 use Rattle.records.specs.declared.record.Event.{Event}
 use Rattle.records.specs.declared.record.Event.TheVariants.{Scalar, SeqStart, SeqEnd, MapStart, MapEnd, RecursiveAlias}
 use Rattle.records.specs.declared.record.Place.{Place}
 use Rattle.records.specs.declared.record.ScalarStyle.{ScalarStyle}
-use Rattle.tape_file.specs.Lines.{location_words, origin_words, place_words, raw_words, event_words, style_word, Small, SmallLocation, SmallOrigin, SmallPlace, SmallRaw, SmallEvent}
+use Rattle.tape_file.specs.Lines.{place_words, event_words, style_word, Small, SmallPlace, SmallRaw, SmallEvent}
 use Rattle.tape_file.specs.Heads.{head_words, SmallHead}
 use Rattle.tape_file.specs.declared.head.Head.{Head}
 use Rattle.tape_file.proofs.Parsing.{Leads}
@@ -22,33 +20,6 @@ At w lead P Q = cond (bytes_eq w lead) P Q
 
 abbrev Made : {X B : Type 0} → (B → X) → X → Type 0
 Made {X} {B} mk y = (b : B) × (mk b ≡ y)
-
-abbrev OriginBy : List ℕ → NodeOrigin → Type 0
-OriginBy w y = At w (codes "alias") (Made Alias y) (At w (codes "merge") (Made Merge y) (Unit {0}))
-
-origin_by : (y : NodeOrigin) (s : List (List ℕ)) → OriginBy (first (origin_words y ++ s)) y
-origin_by Direct s = tt
-origin_by (Alias l) s = (l, refl)
-origin_by (Merge l) s = (l, refl)
-
-origin_view : (y : NodeOrigin) (s ws : List (List ℕ)) (lead : List ℕ) → lead ∷ ws ≡ origin_words y ++ s → OriginBy lead y
-origin_view y s ws lead e = subst (λ w. OriginBy w y) (sym (ap first e)) (origin_by y s)
-
-pub alias_leads : Leads origin_words SmallOrigin (codes "alias") location_words SmallLocation Alias
-alias_leads = record { opens = λ b. refl; fits = λ b h. h; back = λ b h. h; view = λ y s ws e. origin_view y s ws (codes "alias") e }
-
-pub merge_leads : Leads origin_words SmallOrigin (codes "merge") location_words SmallLocation Merge
-merge_leads = record { opens = λ b. refl; fits = λ b h. h; back = λ b h. h; view = λ y s ws e. origin_view y s ws (codes "merge") e }
-
-abbrev RawBy : List ℕ → Option Place → Type 0
-RawBy w y = At w (codes "raw") (Made Some y) (Unit {0})
-
-raw_by : (y : Option Place) (s : List (List ℕ)) → RawBy (first (raw_words y ++ s)) y
-raw_by None s = tt
-raw_by (Some p) s = (p, refl)
-
-pub raw_leads : Leads raw_words SmallRaw (codes "raw") place_words SmallPlace Some
-raw_leads = record { opens = λ b. refl; fits = λ b h. h; back = λ b h. h; view = λ y s ws e. subst (λ w. RawBy w y) (sym (ap first e)) (raw_by y s) }
 
 -- what follows the word `scalar`
 abbrev pub Body : Type 0

@@ -1,5 +1,5 @@
 -- No word of a record has a blank in it, so a record's line is cut into its words.
-use Rattle.std.proofs.Common.{◌≡◌, ℕ, ◌<◌, true, ◌∷◌, ◌++◌, Some, None, decimal, Option, refl, lit<, rules}
+use Rattle.std.proofs.Common.{◌≡◌, ℕ, true, ◌∷◌, ◌++◌, Some, None, decimal, Option, refl, lit<, rules}
 use Rattle.records.specs.declared.location.Location.{Location}
 use Rattle.records.specs.declared.location.NodeOrigin.{NodeOrigin}
 use Rattle.records.specs.declared.location.NodeOrigin.TheVariants.{Direct, Alias, Merge}
