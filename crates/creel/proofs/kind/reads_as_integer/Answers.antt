@@ -1,4 +1,4 @@
-use Rattle.std.proofs.Common.{◌≡◌, Bool, Decides, sym, subst}
+use Rattle.std.proofs.Common.{Bool, Decides, sym, subst}
 use Rattle.creel.specs.Kinds.{ReadsInteger}
 use Rattle.creel.proofs.Readings.{reading_decides}
 use Rattle.creel.proofs.kind.reads_as_integer.Goals as goal

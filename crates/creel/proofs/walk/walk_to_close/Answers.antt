@@ -1,4 +1,4 @@
-use Rattle.std.proofs.Common.{◌≡◌, ℕ, true, false, length, sym, ap, ◌∙◌, arith}
+use Rattle.std.proofs.Common.{◌≡◌, ℕ, length, sym, ap, ◌∙◌, arith}
 use Rattle.events.proofs.Tapes.{sound_short}
 use Rattle.creel.proofs.Walking.{begun, answered, left, bound, counts, passes, less}
 use Rattle.creel.proofs.walk.walk_to_close.Goals as goal
@@ -9,8 +9,8 @@ events-init c =
     let after = c.defer_recursive_aliases.ensures.after in
     begun _ _ _ _ (ap (λ m. m.events) after ∙ ap (λ m. m.events) made) (ap (λ m. m.close) after ∙ ap (λ m. m.close) made) (ap (λ m. m.deferring) after)
 
-pub overflow-add-count : goal.overflow-add-count
-overflow-add-count c =
+pub overflow_add-count : goal.overflow_add-count
+overflow_add-count c =
     let w = c.events.invariant in
     let r = c.in-Some.record in
     let p = answered _ _ _ _ _ w r _ c.in-Some.is c.in-Ok.ensures.answer in
