@@ -167,7 +167,7 @@ fn a_long_tape_is_refused_before_a_long_text(rt: HostRuntime) -> Result<(), Fail
 #[test]
 fn an_event_shows_its_bytes(rt: HostRuntime) -> Result<(), Fail> {
     match Ev::of(scalar(1, 1, 2), b"abcd") {
-        Some(Ev::Scalar { value, .. }) => assert!(rt; value == b"bc"),
+        Some(Ev::Scalar { value, .. }) => assert!(rt; value == b"bc".as_slice()),
         _ => return Err(Fail::new("no scalar")),
     }
     assert!(rt; Ev::of(scalar(1, 3, 2), b"abcd").is_none());

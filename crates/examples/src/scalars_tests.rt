@@ -43,7 +43,7 @@ fn refuses_other_texts(rt: HostRuntime) {
 
 #[test]
 fn trims(rt: HostRuntime) {
-    assert_eq!(rt; yaml_trim(b" \t1\r\n"), b"1");
+    assert_eq!(rt; yaml_trim(b" \t1\r\n"), b"1".as_slice());
 }
 
 #[test]
