@@ -2,7 +2,7 @@
 use Rattle.std.proofs.Common.{◌≡◌, ℕ, zero, suc, ◌<◌, Bool, true, false, cond, List, [], ◌∷◌, length, get_or, take, Some, None, Option, sym, refl, ap, ◌∙◌, subst, arith}
 use Rattle.std.specs.List.{AllByRecursion as All}
 use Rattle.std.proofs.lemmas.Bool.{cond-true, cond-false, or_left, or_right, or_from}
-use Rattle.kept.specs.Searching.{later, first_by, any_by, without, Finds}
+use Rattle.kept.specs.Searching.{later, first_by, any_by, Finds}
 
 module _ {X : Type 0} (p : X → Bool) where
   finds_more : (x : X) (xs : List X) (b : Bool) (o : Option ℕ) → p x ≡ b → Finds p xs o → Finds p (x ∷ xs) (cond b (Some 0) (later o))
