@@ -1,10 +1,10 @@
 -- What every source shares: the front before and after a peek.
-use Rattle.std.proofs.Common.{◌≡◌, ℕ, Bool, true, false, cond, not, ◌||◌, List, [], ◌∷◌, Some, None, Ok, Err, Result, sym, refl, ap, ◌∙◌, subst}
+use Rattle.std.proofs.Common.{◌≡◌, ℕ, Bool, true, false, cond, not, ◌||◌, List, [], ◌∷◌, Some, Ok, Err, refl, subst}
 use Rattle.records.specs.declared.record.Event.{Event}
 use Rattle.records.specs.declared.record.Event.TheVariants.{Scalar, SeqStart, SeqEnd, MapStart, MapEnd, RecursiveAlias}
 use Rattle.records.specs.declared.record.Record.{Record}
 use Rattle.events.specs.Meaning.{Meaning, Close, Plain, Fault, known, nulled, unknown_alias, resolve, stands, front, tail, peeked, deferred}
-use Rattle.events.specs.Fronts.{shown, null_if, at_front}
+use Rattle.events.specs.Fronts.{null_if, at_front}
 
 pub same_meaning : (a b : Meaning) → a.events ≡ b.events → a.close ≡ b.close → a.last ≡ b.last → a.past ≡ b.past → a.deferring ≡ b.deferring → a.anchors ≡ b.anchors → a ≡ b
 same_meaning a b p q l o d k = λ i. record { events = p i; close = q i; last = l i; past = o i; deferring = d i; anchors = k i }

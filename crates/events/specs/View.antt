@@ -1,5 +1,5 @@
 -- A record as it is seen beside its text: with the bytes at its places.
-use Rattle.std.specs.Prelude.{ℕ, Bool, true, false, cond, List, length, take, drop, Some, None, Option}
+use Rattle.std.specs.Prelude.{ℕ, cond, List, length, take, drop, Some, None, Option}
 use Rattle.std.specs.Option.{option_map}
 use Rattle.records.specs.declared.location.Location.{Location}
 use Rattle.records.specs.declared.tags.SfTag.{SfTag}

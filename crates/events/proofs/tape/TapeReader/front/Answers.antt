@@ -1,4 +1,4 @@
-use Rattle.std.proofs.Common.{◌≡◌, true, false, sym, arith, rules}
+use Rattle.std.proofs.Common.{sym, arith, rules}
 use Rattle.events.proofs.Tapes.{front_none, front_some}
 use Rattle.events.proofs.tape.TapeReader.front.Goals as goal
 

@@ -1,4 +1,4 @@
-use Rattle.std.proofs.Common.{◌≡◌, Some, Ok, ap, ◌∙◌}
+use Rattle.std.proofs.Common.{◌≡◌, Some, Ok, ◌∙◌}
 use Rattle.events.specs.Meaning.{settled}
 use Rattle.events.specs.Tape.{tape_meaning}
 use Rattle.events.proofs.Tapes.{takes_some}
