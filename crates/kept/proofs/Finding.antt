@@ -1,6 +1,6 @@
 -- What a search for the first element that passes a test finds, and what is left without it.
 use Rattle.std.proofs.Common.{◌≡◌, ℕ, zero, suc, ◌<◌, Bool, true, false, cond, List, [], ◌∷◌, length, get_or, take, Some, None, Option, sym, refl, ap, ◌∙◌, subst, arith}
-use Rattle.std.specs.List.{AllByRecursion as All}
+use Rattle.std.specs.List.{AllByRecursion}
 use Rattle.std.proofs.lemmas.Bool.{cond-true, cond-false, or_left, or_right, or_from}
 use Rattle.kept.specs.Searching.{later, first_by, any_by, Finds}
 
@@ -37,11 +37,11 @@ module _ {X : Type 0} (p : X → Bool) where
   finds_at xs o e = subst (Finds p xs) (sym e) (finds_first xs)
 
   -- a linear search
-  pub first_none : (xs : List X) → All (λ x. p x ≡ false) xs → first_by p xs ≡ None
+  pub first_none : (xs : List X) → AllByRecursion (λ x. p x ≡ false) xs → first_by p xs ≡ None
   first_none [] a = refl
   first_none (x ∷ xs) a = cond-false (p x) _ _ a.0 ∙ ap later (first_none xs a.1)
 
-  pub first_at : (xs : List X) (i : ℕ) (x : X) → i < length xs → x ≡ get_or xs i x → All (λ y. p y ≡ false) (take i xs) → p x ≡ true → first_by p xs ≡ Some i
+  pub first_at : (xs : List X) (i : ℕ) (x : X) → i < length xs → x ≡ get_or xs i x → AllByRecursion (λ y. p y ≡ false) (take i xs) → p x ≡ true → first_by p xs ≡ Some i
   first_at [] i x lt is a e = absurd (omega arith)
   first_at (y ∷ ys) zero x lt is a e = cond-true (p y) _ _ (ap p (sym is) ∙ e)
   first_at (y ∷ ys) (suc i) x lt is a e = cond-false (p y) _ _ a.0 ∙ ap later (first_at ys i x (omega arith) is a.1 e)

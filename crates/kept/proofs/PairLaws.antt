@@ -1,6 +1,6 @@
 -- Pairing off, among values where equality is lawful: the relation, the test and the counts agree, and it is an equivalence.
 use Rattle.std.proofs.Common.{◌≡◌, ℕ, ◌+◌, ◌<◌, Bool, true, false, cond, ◌||◌, ◌↔◌, List, [], ◌∷◌, sym, refl, ap, ◌∙◌, arith}
-use Rattle.std.specs.List.{AllByRecursion as All}
+use Rattle.std.specs.List.{AllByRecursion}
 use Rattle.std.proofs.lemmas.Bool.{and_parts, and_from, false≢true}
 use Rattle.kept.specs.Equivalence.{Equivalence, EquivalenceOn}
 use Rattle.kept.specs.Searching.{any_by, without}
@@ -39,7 +39,7 @@ module _ {X : Type 0} (same : X → X → Bool) where
       let h = and_parts (any_by (same x) ys) (paired same xs (without (same x) ys)) e in
       partner (pick_first x ys h.0) (relation_from_test xs (without (same x) ys) h.1)
 
-pub all_pick : {X : Type 0} (P : X → Type 0) {same : X → X → Bool} {x : X} {ys rest : List X} → Pick same x ys rest → All P ys → All P rest
+pub all_pick : {X : Type 0} (P : X → Type 0) {same : X → X → Bool} {x : X} {ys rest : List X} → Pick same x ys rest → AllByRecursion P ys → AllByRecursion P rest
 all_pick P (here e) a = a.1
 all_pick P (there d) a = (a.0, all_pick P d a.1)
 
@@ -54,18 +54,18 @@ module _ {X : Type 0} (P : X → Type 0) (same : X → X → Bool) (eq : Equival
       (λ h. eq.transitive z y x pz py px h (eq.symmetric x y px py e))
       (λ h. eq.transitive z x y pz px py h e)
 
-  count_pick : (z x : X) {ys rest : List X} → P z → P x → All P ys → Pick same x ys rest → count_by (same z) ys ≡ one (same z x) + count_by (same z) rest
+  count_pick : (z x : X) {ys rest : List X} → P z → P x → AllByRecursion P ys → Pick same x ys rest → count_by (same z) ys ≡ one (same z x) + count_by (same z) rest
   count_pick z x {ys = y ∷ ys} pz px a (here e) = ap (λ b. one b + count_by (same z) ys) (same_class z x y pz px a.0 e)
   count_pick z x pz px a (there d) = let h = count_pick z x pz px a.1 d in omega arith
 
   -- from the relation to the counts
-  pub counts_from_relation : {xs ys : List X} → All P xs → All P ys → Paired same xs ys → CountedOn P same xs ys
+  pub counts_from_relation : {xs ys : List X} → AllByRecursion P xs → AllByRecursion P ys → Paired same xs ys → CountedOn P same xs ys
   counts_from_relation a b no_more z pz = refl
   counts_from_relation a b (partner {x = x} d r) z pz =
       ap (λ n. one (same z x) + n) (counts_from_relation a.1 (all_pick P d b) r z pz) ∙ sym (count_pick z x pz a.0 b d)
 
   -- from the counts to the test
-  pub test_from_counts : (xs ys : List X) → All P xs → All P ys → CountedOn P same xs ys → paired same xs ys ≡ true
+  pub test_from_counts : (xs ys : List X) → AllByRecursion P xs → AllByRecursion P ys → CountedOn P same xs ys → paired same xs ys ≡ true
   test_from_counts [] [] a b h = refl
   test_from_counts [] (y ∷ ys) a b h =
       let k = h y b.0 in
@@ -81,23 +81,23 @@ module _ {X : Type 0} (P : X → Type 0) (same : X → X → Bool) (eq : Equival
       let m = count_pick z x pz a.0 b d in
       let l = h z pz in omega arith))
 
-  pub relation_from_counts : (xs ys : List X) → All P xs → All P ys → CountedOn P same xs ys → Paired same xs ys
+  pub relation_from_counts : (xs ys : List X) → AllByRecursion P xs → AllByRecursion P ys → CountedOn P same xs ys → Paired same xs ys
   relation_from_counts xs ys a b h = relation_from_test same xs ys (test_from_counts xs ys a b h)
 
-  pub test_from_relation : (xs ys : List X) → All P xs → All P ys → Paired same xs ys → paired same xs ys ≡ true
+  pub test_from_relation : (xs ys : List X) → AllByRecursion P xs → AllByRecursion P ys → Paired same xs ys → paired same xs ys ≡ true
   test_from_relation xs ys a b d = test_from_counts xs ys a b (counts_from_relation a b d)
 
-  pub answer_is_test : (xs ys : List X) → All P xs → All P ys → (answer : Bool) → ((answer ≡ true) ↔ Paired same xs ys) → answer ≡ paired same xs ys
+  pub answer_is_test : (xs ys : List X) → AllByRecursion P xs → AllByRecursion P ys → (answer : Bool) → ((answer ≡ true) ↔ Paired same xs ys) → answer ≡ paired same xs ys
   answer_is_test xs ys a b answer h =
       bool_same answer (paired same xs ys) (λ t. test_from_relation xs ys a b (h.0 t)) (λ t. h.1 (relation_from_test same xs ys t))
 
-  pub paired_reflexive : (xs : List X) → All P xs → Paired same xs xs
+  pub paired_reflexive : (xs : List X) → AllByRecursion P xs → Paired same xs xs
   paired_reflexive xs a = relation_from_counts xs xs a a (λ z pz. refl)
 
-  pub paired_symmetric : (xs ys : List X) → All P xs → All P ys → Paired same xs ys → Paired same ys xs
+  pub paired_symmetric : (xs ys : List X) → AllByRecursion P xs → AllByRecursion P ys → Paired same xs ys → Paired same ys xs
   paired_symmetric xs ys a b d = relation_from_counts ys xs b a (λ z pz. sym (counts_from_relation a b d z pz))
 
-  pub paired_transitive : (xs ys zs : List X) → All P xs → All P ys → All P zs → Paired same xs ys → Paired same ys zs → Paired same xs zs
+  pub paired_transitive : (xs ys zs : List X) → AllByRecursion P xs → AllByRecursion P ys → AllByRecursion P zs → Paired same xs ys → Paired same ys zs → Paired same xs zs
   paired_transitive xs ys zs a b c d f =
       relation_from_counts xs zs a c (λ z pz. counts_from_relation a b d z pz ∙ counts_from_relation b c f z pz)
 
@@ -105,7 +105,7 @@ module _ {X : Type 0} (P : X → Type 0) (same : X → X → Bool) (eq : Equival
 abbrev pub Anything : {X : Type 0} → X → Type 0
 Anything x = Unit {0}
 
-pub all_anything : {X : Type 0} (xs : List X) → All Anything xs
+pub all_anything : {X : Type 0} (xs : List X) → AllByRecursion Anything xs
 all_anything [] = tt
 all_anything (x ∷ xs) = (tt, all_anything xs)
 

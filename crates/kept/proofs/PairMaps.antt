@@ -1,6 +1,6 @@
 -- Pairing off under another equality, and of lists that were mapped.
 use Rattle.std.proofs.Common.{◌≡◌, Bool, true, List, [], ◌∷◌, map, refl, ap, subst}
-use Rattle.std.specs.List.{AllByRecursion as All}
+use Rattle.std.specs.List.{AllByRecursion}
 use Rattle.kept.specs.Pairing.{Pick, Paired}
 use Rattle.kept.specs.Pairing.Pick.{here, there}
 use Rattle.kept.specs.Pairing.Paired.{no_more, partner}
@@ -8,11 +8,11 @@ use Rattle.kept.proofs.PairLaws.{all_pick}
 
 -- an equality that says no less, among the values of which `P` holds
 module _ {X : Type 0} (P : X → Type 0) (same other : X → X → Bool) (weaker : (x y : X) → P x → P y → same x y ≡ true → other x y ≡ true) where
-  pick_weaker : {x : X} {ys rest : List X} → P x → All P ys → Pick same x ys rest → Pick other x ys rest
+  pick_weaker : {x : X} {ys rest : List X} → P x → AllByRecursion P ys → Pick same x ys rest → Pick other x ys rest
   pick_weaker {x} {ys = y ∷ ys} px a (here e) = here (weaker x y px a.0 e)
   pick_weaker px a (there d) = there (pick_weaker px a.1 d)
 
-  pub paired_weaker : {xs ys : List X} → All P xs → All P ys → Paired same xs ys → Paired other xs ys
+  pub paired_weaker : {xs ys : List X} → AllByRecursion P xs → AllByRecursion P ys → Paired same xs ys → Paired other xs ys
   paired_weaker a b no_more = no_more
   paired_weaker a b (partner d r) = partner (pick_weaker a.0 b d) (paired_weaker a.1 (all_pick P d b) r)
 

@@ -1,6 +1,6 @@
 -- The first element of a list that passes a test.
 use Rattle.std.specs.Prelude.{◌≡◌, ℕ, suc, ◌<◌, Bool, true, false, cond, ◌||◌, List, [], ◌∷◌, length, take, Some, None, Option, slice_index_or}
-use Rattle.std.specs.List.{remove, AllByRecursion as All}
+use Rattle.std.specs.List.{remove, AllByRecursion}
 
 -- a place of the rest, counted from one element earlier
 abbrev pub later : Option ℕ → Option ℕ
@@ -26,13 +26,13 @@ without p (x ∷ xs) = cond (p x) xs (x ∷ without p xs)
 pub record First {X : Type 0} (p : X → Bool) (xs : List X) (i : ℕ) : Type 0 where
   pub below : i < length xs
   pub passes : (d : X) → p (slice_index_or xs i d) ≡ true
-  pub before : All (λ x. p x ≡ false) (take i xs)
+  pub before : AllByRecursion (λ x. p x ≡ false) (take i xs)
   pub found : any_by p xs ≡ true
   pub rest : without p xs ≡ remove xs i
 
 -- `Missing p xs`: none passes, and `without` takes nothing off
 pub record Missing {X : Type 0} (p : X → Bool) (xs : List X) : Type 0 where
-  pub fails : All (λ x. p x ≡ false) xs
+  pub fails : AllByRecursion (λ x. p x ≡ false) xs
   pub found : any_by p xs ≡ false
   pub rest : without p xs ≡ xs
 

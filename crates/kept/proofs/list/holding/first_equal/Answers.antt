@@ -2,7 +2,7 @@
 use Rattle.std.proofs.Common.{◌≡◌, Bool, false, sym, ap, ◌∙◌, subst}
 use Rattle.std.proofs.ByRecursion.{All-more}
 use Rattle.std.proofs.lemmas.List.{take_all}
-use Rattle.std.specs.List.{AllByRecursion as All}
+use Rattle.std.specs.List.{AllByRecursion}
 use Rattle.kept.proofs.Finding.{finds_at, first_at, first_none}
 use Rattle.kept.proofs.list.holding.first_equal.Goals as goal
 
@@ -20,5 +20,5 @@ loop-i-preserved g c =
 pub returns : goal.returns
 returns g c =
     let p : g.row.T.Denot → Bool = g.E.Equality.same c.args.eq.now c.args.x.now in
-    let e = sym (first_none p c.args.items.now (subst (All (λ y. p y ≡ false)) (take_all _ _ c.loop-i-test.false) c.loop-i.invariant)) in
+    let e = sym (first_none p c.args.items.now (subst (AllByRecursion (λ y. p y ≡ false)) (take_all _ _ c.loop-i-test.false) c.loop-i.invariant)) in
     record { place = e; finds = finds_at p _ _ e }
