@@ -20,6 +20,7 @@ CHOSEN = {
     "sameBytes": "equal_bytes",  # same_bytes is a lemma
     "same-canon": "canon_is_same",
     "same-leaf": "leaf_is_same",
+    "countBy": "count_passing",  # count_by is std's
     "First-wins": "FirstWinsLaw",  # FirstWins is a policy
     "Last-wins": "LastWinsLaw",
     "place_at": "place_is",

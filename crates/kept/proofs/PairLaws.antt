@@ -4,7 +4,7 @@ use Rattle.std.specs.List.{AllByRecursion}
 use Rattle.std.proofs.lemmas.Bool.{and_parts, and_from, false≢true}
 use Rattle.kept.specs.Equivalence.{Equivalence, EquivalenceOn}
 use Rattle.kept.specs.Searching.{any_by, without}
-use Rattle.kept.specs.Pairing.{Pick, Paired, paired, one, count_by, PairingIsEquivalence, TestIsRelation, PairingByCounts}
+use Rattle.kept.specs.Pairing.{Pick, Paired, paired, one, count_passing, PairingIsEquivalence, TestIsRelation, PairingByCounts}
 use Rattle.kept.specs.Pairing.Pick.{here, there}
 use Rattle.kept.specs.Pairing.Paired.{no_more, partner}
 
@@ -22,9 +22,9 @@ any_more : (b r : Bool) (n : ℕ) → (0 < n → r ≡ true) → 0 < one b + n �
 any_more true r n f h = refl
 any_more false r n f h = f (omega arith)
 
-pub any_counted : {X : Type 0} (p : X → Bool) (xs : List X) → 0 < count_by p xs → any_by p xs ≡ true
+pub any_counted : {X : Type 0} (p : X → Bool) (xs : List X) → 0 < count_passing p xs → any_by p xs ≡ true
 any_counted p [] h = absurd (omega arith)
-any_counted p (x ∷ xs) h = any_more (p x) (any_by p xs) (count_by p xs) (any_counted p xs) h
+any_counted p (x ∷ xs) h = any_more (p x) (any_by p xs) (count_passing p xs) (any_counted p xs) h
 
 -- from the test to the relation: this asks nothing of the equality
 module _ {X : Type 0} (same : X → X → Bool) where
@@ -45,7 +45,7 @@ all_pick P (there d) a = (a.0, all_pick P d a.1)
 
 -- each value of which `P` holds has as many equals in both lists
 abbrev pub CountedOn : {X : Type 0} → (X → Type 0) → (X → X → Bool) → List X → List X → Type 0
-CountedOn {X} P same xs ys = (z : X) → P z → count_by (same z) xs ≡ count_by (same z) ys
+CountedOn {X} P same xs ys = (z : X) → P z → count_passing (same z) xs ≡ count_passing (same z) ys
 
 module _ {X : Type 0} (P : X → Type 0) (same : X → X → Bool) (eq : EquivalenceOn P same) where
   same_class : (z x y : X) → P z → P x → P y → same x y ≡ true → same z y ≡ same z x
@@ -54,8 +54,8 @@ module _ {X : Type 0} (P : X → Type 0) (same : X → X → Bool) (eq : Equival
       (λ h. eq.transitive z y x pz py px h (eq.symmetric x y px py e))
       (λ h. eq.transitive z x y pz px py h e)
 
-  count_pick : (z x : X) {ys rest : List X} → P z → P x → AllByRecursion P ys → Pick same x ys rest → count_by (same z) ys ≡ one (same z x) + count_by (same z) rest
-  count_pick z x {ys = y ∷ ys} pz px a (here e) = ap (λ b. one b + count_by (same z) ys) (same_class z x y pz px a.0 e)
+  count_pick : (z x : X) {ys rest : List X} → P z → P x → AllByRecursion P ys → Pick same x ys rest → count_passing (same z) ys ≡ one (same z x) + count_passing (same z) rest
+  count_pick z x {ys = y ∷ ys} pz px a (here e) = ap (λ b. one b + count_passing (same z) ys) (same_class z x y pz px a.0 e)
   count_pick z x pz px a (there d) = let h = count_pick z x pz px a.1 d in omega arith
 
   -- from the relation to the counts

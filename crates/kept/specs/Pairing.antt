@@ -27,13 +27,13 @@ one true = 1
 one false = 0
 
 -- how many pass
-abbrev pub count_by : {X : Type 0} → (X → Bool) → List X → ℕ
-count_by p [] = 0
-count_by p (x ∷ xs) = one (p x) + count_by p xs
+abbrev pub count_passing : {X : Type 0} → (X → Bool) → List X → ℕ
+count_passing p [] = 0
+count_passing p (x ∷ xs) = one (p x) + count_passing p xs
 
 -- each value has as many equals in both lists
 abbrev pub Counted : {X : Type 0} → (X → X → Bool) → List X → List X → Type 0
-Counted {X} same xs ys = (z : X) → count_by (same z) xs ≡ count_by (same z) ys
+Counted {X} same xs ys = (z : X) → count_passing (same z) xs ≡ count_passing (same z) ys
 
 -- the laws
 pub record PairingIsEquivalence {X : Type 0} (same : X → X → Bool) : Type 0 where
