@@ -11,15 +11,11 @@ use records::record::{Event, Place, Record};
 use std::alloc::{AllocError, Global};
 use std::fmt;
 
-/// A record to be shown as a tape file has it: `{}` of a `Line<Record>` is its line.
+/// A record, or a part of one, to be shown as a tape file has it: `{}` of a `Line<Record>` is its line.
 #[derive(Clone, Copy)]
 pub struct Line<T>(pub T);
 
-// A part of a record, to be shown as its line has it.
-#[derive(Clone, Copy)]
-struct Part<T>(T);
-
-impl fmt::Display for Part<Location> {
+impl fmt::Display for Line<Location> {
     ghost output = { λ x. Some (spaced (location_words x.0)) };
 
     fn fmt<W: fmt::Write>(&self, f: &mut fmt::Formatter<W>) -> fmt::Result {
@@ -32,19 +28,19 @@ impl fmt::Display for Part<Location> {
     }
 }
 
-impl fmt::Display for Part<NodeOrigin> {
+impl fmt::Display for Line<NodeOrigin> {
     ghost output = { λ x. Some (spaced (origin_words x.0)) };
 
     fn fmt<W: fmt::Write>(&self, f: &mut fmt::Formatter<W>) -> fmt::Result {
         match self.0 {
             NodeOrigin::Direct => f.write_str("direct"),
-            NodeOrigin::Alias(at) => write!(f, "alias {}", Part(at)),
-            NodeOrigin::Merge(at) => write!(f, "merge {}", Part(at)),
+            NodeOrigin::Alias(at) => write!(f, "alias {}", Line(at)),
+            NodeOrigin::Merge(at) => write!(f, "merge {}", Line(at)),
         }
     }
 }
 
-impl fmt::Display for Part<Place> {
+impl fmt::Display for Line<Place> {
     ghost output = { λ x. Some (spaced (place_words x.0)) };
 
     fn fmt<W: fmt::Write>(&self, f: &mut fmt::Formatter<W>) -> fmt::Result {
@@ -53,27 +49,27 @@ impl fmt::Display for Part<Place> {
     }
 }
 
-impl fmt::Display for Part<Option<Place>> {
+impl fmt::Display for Line<Option<Place>> {
     ghost output = { λ x. Some (spaced (raw_words x.0)) };
 
     fn fmt<W: fmt::Write>(&self, f: &mut fmt::Formatter<W>) -> fmt::Result {
         match self.0 {
             None => f.write_str("-"),
-            Some(place) => write!(f, "raw {}", Part(place)),
+            Some(place) => write!(f, "raw {}", Line(place)),
         }
     }
 }
 
-impl fmt::Display for Part<Head> {
+impl fmt::Display for Line<Head> {
     ghost output = { λ x. Some (spaced (head_words x.0)) };
 
     fn fmt<W: fmt::Write>(&self, f: &mut fmt::Formatter<W>) -> fmt::Result {
         let Head(anchor, tag, raw_tag) = self.0;
-        write!(f, "{anchor} {} {}", tag_word(tag), Part(raw_tag))
+        write!(f, "{anchor} {} {}", tag_word(tag), Line(raw_tag))
     }
 }
 
-impl fmt::Display for Part<Event> {
+impl fmt::Display for Line<Event> {
     ghost output = { λ x. Some (spaced (event_words x.0)) };
 
     fn fmt<W: fmt::Write>(&self, f: &mut fmt::Formatter<W>) -> fmt::Result {
@@ -85,20 +81,20 @@ impl fmt::Display for Part<Event> {
                 style,
                 value,
             } => {
-                let head = Part(Head(anchor, tag, raw_tag));
-                write!(f, "scalar {head} {} {}", style_word(style), Part(value))
+                let head = Line(Head(anchor, tag, raw_tag));
+                write!(f, "scalar {head} {} {}", style_word(style), Line(value))
             }
             Event::SeqStart {
                 anchor,
                 tag,
                 raw_tag,
-            } => write!(f, "seq {}", Part(Head(anchor, tag, raw_tag))),
+            } => write!(f, "seq {}", Line(Head(anchor, tag, raw_tag))),
             Event::SeqEnd => f.write_str("endseq"),
             Event::MapStart {
                 anchor,
                 tag,
                 raw_tag,
-            } => write!(f, "map {}", Part(Head(anchor, tag, raw_tag))),
+            } => write!(f, "map {}", Line(Head(anchor, tag, raw_tag))),
             Event::MapEnd => f.write_str("endmap"),
             Event::RecursiveAlias { anchor } => write!(f, "alias {anchor}"),
         }
@@ -115,7 +111,7 @@ impl fmt::Display for Line<Record> {
             origin,
             event,
         } = self.0;
-        write!(f, "{} {} {}", Part(location), Part(origin), Part(event))
+        write!(f, "{} {} {}", Line(location), Line(origin), Line(event))
     }
 }
 

@@ -1,6 +1,6 @@
 -- A scalar's line has its words in order.
 use Rattle.tape_file.proofs.Shown.{put_same, scalar_shown}
-use Rattle.tape_file.proofs.line.PartEventDisplay.fmt.Goals as goal
+use Rattle.tape_file.proofs.line.LineEventDisplay.fmt.Goals as goal
 
 pub returns-in-Scalar-clause-writes : goal.returns-in-Scalar-clause-writes
 returns-in-Scalar-clause-writes g c plain ok =
