@@ -23,9 +23,17 @@ CHOSEN = {
     "countBy": "count_passing",  # count_by is std's
     "First-wins": "FirstWinsLaw",  # FirstWins is a policy
     "Last-wins": "LastWinsLaw",
+    "first_of": "first_record",  # first_of is a tactic
     "place_at": "place_is",
     "same_tag": "tag_is_same",
     "zero-leads": "zero_is_leading",
+}
+# Where one file's name fell together with another file's, after port.py: file -> old -> new.
+THERE = {
+    "events/proofs/Tapes.antt": {"first_of": "from_split"},
+    "nodes/specs/Alike.antt": {"and_then": "and_more"},  # a constructor beside the function and_then
+    "nodes/proofs/Equality.antt": {"and_then": "and_more"},
+    "nodes/proofs/Tested.antt": {"and_then": "and_more"},
 }
 NAME = r"[A-Za-z][\w'\-]*"
 DECL = re.compile(rf"^(?P<words>(?:abbrev |unfoldable |mutual |record |data |pub )*)(?P<name>{NAME})\b(?P<rest>.*)$")
@@ -144,7 +152,8 @@ def main():
     for ending in (".antt", ".rt", ".edit"):
         for p in files(ending):
             old = read(p)
-            text = respelled(old, new, fields)
+            here = THERE.get(os.path.relpath(p, CRATES), {})
+            text = respelled(old, {**new, **here}, fields)
             if text != old:
                 with open(p, "w", encoding="utf-8") as f:
                     f.write(text)

@@ -91,5 +91,5 @@ first_in c l [] = Err (ended_by c l)
 first_in c l (r ∷ rs) = Ok r
 
 -- the next event of a source, as it stands
-abbrev pub first_of : Meaning → Result Record Refusal
-first_of m = first_in m.close m.last m.events
+abbrev pub first_record : Meaning → Result Record Refusal
+first_record m = first_in m.close m.last m.events

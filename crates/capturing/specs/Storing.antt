@@ -8,12 +8,12 @@ use Rattle.events.specs.Meaning.{Meaning}
 use Rattle.nodes.specs.Reading.{refusal}
 use Rattle.nodes.specs.Taking.{past}
 use Rattle.capturing.specs.declared.path.Spot.{Spot}
-use Rattle.capturing.specs.Paths.{misplaced, asked, first_of}
+use Rattle.capturing.specs.Paths.{misplaced, asked, first_record}
 
 pub record StoredOne (s : Spot) (text : ℕ) (low : Bool) (m : Meaning) (ss : List Record) (f : ℕ) (e : Event) (m' : Meaning) (ss' : List Record) (f' : ℕ) : Type 0 where
   pub first : Record
   pub is : e ≡ first.event
-  pub comes : Ok first ≡ first_of m
+  pub comes : Ok first ≡ first_record m
   pub fine : None ≡ asked s (nat_lt f (length ss)) text low first.event
   pub slots : ss' ≡ slice_set ss f first
   pub fill : f' ≡ f + 1
@@ -21,8 +21,8 @@ pub record StoredOne (s : Spot) (text : ℕ) (low : Bool) (m : Meaning) (ss : Li
 
 -- no event comes, or one that is refused; one that is out of place is taken
 pub data RefusedOne (s : Spot) (text : ℕ) (low : Bool) (m : Meaning) (ss : List Record) (f : ℕ) (e : Refusal) (m' : Meaning) (ss' : List Record) : Type 0 where
-  none_comes : Err e ≡ first_of m → m' ≡ m → ss' ≡ ss → RefusedOne s text low m ss f e m' ss'
-  one_comes : (r : Record) (why : Reason) → Ok r ≡ first_of m → e ≡ refusal why r.location → Some why ≡ asked s (nat_lt f (length ss)) text low r.event → m' ≡ past (cond (misplaced s r.event) 1 0) m → ss' ≡ ss → RefusedOne s text low m ss f e m' ss'
+  none_comes : Err e ≡ first_record m → m' ≡ m → ss' ≡ ss → RefusedOne s text low m ss f e m' ss'
+  one_comes : (r : Record) (why : Reason) → Ok r ≡ first_record m → e ≡ refusal why r.location → Some why ≡ asked s (nat_lt f (length ss)) text low r.event → m' ≡ past (cond (misplaced s r.event) 1 0) m → ss' ≡ ss → RefusedOne s text low m ss f e m' ss'
 
 abbrev pub One : Spot → ℕ → Bool → Meaning → List Record → ℕ → Result Event Refusal → Meaning → List Record → ℕ → Type 0
 One s text low m ss f (Ok e) m' ss' f' = StoredOne s text low m ss f e m' ss' f'

@@ -1,7 +1,7 @@
 // The front of a source that defers recursive aliases.
 ghost use Rattle.std.specs.Prelude.{◌≡◌, true};
 ghost use Rattle.nodes.specs.Taking.{past};
-ghost use Rattle.capturing.specs.Paths.{first_of};
+ghost use Rattle.capturing.specs.Paths.{first_record};
 
 use events::source::Events;
 use records::record::Record;
@@ -10,7 +10,7 @@ use records::refusal::{Reason, Refusal};
 /// Shows the next event, which has to come.
 pub(crate) fn front<S: Events>(source: &mut S) -> Result<Record, Refusal>
     requires { (S.meaning source.old).deferring ≡ true }
-    ensures answer { result ≡ first_of (S.meaning source.old) }
+    ensures answer { result ≡ first_record (S.meaning source.old) }
     ensures after { S.meaning source.new ≡ S.meaning source.old }
 {
     match source.peek()? {

@@ -98,11 +98,11 @@ module _ (n : ℕ) where
   split i (x ∷ rs) = here i x rs (placed n x.event) refl (split (i + 1) rs)
 
   first_fault : (tape : List Record) → FirstFault n tape (sound n tape) (ends n 0 tape)
-  first_fault tape = first_of (split 0 tape)
+  first_fault tape = from_split (split 0 tape)
     where
-      first_of : Split 0 tape (sound n tape) (ends n 0 tape) → FirstFault n tape (sound n tape) (ends n 0 tape)
-      first_of (inl h) = inl h
-      first_of (inr h) = let e : 0 + length (sound n tape) ≡ length (sound n tape) = omega arith in inr (h.0, h.1, h.2, h.3 ∙ ap (λ k. Fault (fault_at k)) e, h.4, h.5)
+      from_split : Split 0 tape (sound n tape) (ends n 0 tape) → FirstFault n tape (sound n tape) (ends n 0 tape)
+      from_split (inl h) = inl h
+      from_split (inr h) = let e : 0 + length (sound n tape) ≡ length (sound n tape) = omega arith in inr (h.0, h.1, h.2, h.3 ∙ ap (λ k. Fault (fault_at k)) e, h.4, h.5)
 
 -- a reader that was just made
 pub fresh : (s : TapeReader) → length s.tape.now ≤ 65536 → length s.text.now ≤ 65536 → s.at ≡ 0 → s.resolved ≡ false → s.deferring ≡ false

@@ -7,7 +7,7 @@ use Rattle.nodes.specs.Prints.PrintPairs.{nothing, field}
 use Rattle.nodes.specs.Alike.{Pick, Alike, AlikeAll, Matched, AlikeIsEquality}
 use Rattle.nodes.specs.Alike.Pick.{here, there}
 use Rattle.nodes.specs.Alike.Alike.{leaves, sequences, mappings}
-use Rattle.nodes.specs.Alike.AlikeAll.{no_more, and_then}
+use Rattle.nodes.specs.Alike.AlikeAll.{no_more, and_more}
 use Rattle.nodes.specs.Alike.Matched.{all_matched, partner}
 
 -- two picks, one after the other, the other way round
@@ -36,7 +36,7 @@ mutual
 
   pub alikes_self : (xs : Prints) → AlikeAll xs xs
   alikes_self end = no_more
-  alikes_self (then x xs) = and_then (alike_self x) (alikes_self xs)
+  alikes_self (then x xs) = and_more (alike_self x) (alikes_self xs)
 
   pub matched_self : (ps : PrintPairs) → Matched ps ps
   matched_self nothing = all_matched
@@ -50,7 +50,7 @@ mutual
 
   pub euclids : {xs ys zs : Prints} → AlikeAll xs ys → AlikeAll xs zs → AlikeAll ys zs
   euclids no_more no_more = no_more
-  euclids (and_then a as') (and_then b bs) = and_then (euclid a b) (euclids as' bs)
+  euclids (and_more a as') (and_more b bs) = and_more (euclid a b) (euclids as' bs)
 
   pub euclidp : {ps qs rs : PrintPairs} → Matched ps qs → Matched ps rs → Matched qs rs
   euclidp all_matched all_matched = all_matched

@@ -8,7 +8,7 @@ use Rattle.nodes.specs.Prints.PrintPairs.{nothing, field}
 use Rattle.nodes.specs.Alike.{Pick, Alike, AlikeAll, Matched, same_canon, take_off, alike, alikes, matched, AlikeIsTested}
 use Rattle.nodes.specs.Alike.Pick.{here, there}
 use Rattle.nodes.specs.Alike.Alike.{leaves, sequences, mappings}
-use Rattle.nodes.specs.Alike.AlikeAll.{no_more, and_then}
+use Rattle.nodes.specs.Alike.AlikeAll.{no_more, and_more}
 use Rattle.nodes.specs.Alike.Matched.{all_matched, partner}
 use Rattle.nodes.proofs.Equality.{euclid, exchange}
 use Rattle.nodes.proofs.Leaves.{canon_self, canon_is_same, leaf_is_same}
@@ -66,7 +66,7 @@ mutual
   sounds (then x xs) end h = absurd (false≢true h)
   sounds (then x xs) (then y ys) h =
       let (a, b) = and_parts (alike x y) (alikes xs ys) h in
-      and_then (sound x y a) (sounds xs ys b)
+      and_more (sound x y a) (sounds xs ys b)
 
   soundp : (ps qs : PrintPairs) → matched ps qs ≡ true → Matched ps qs
   soundp nothing nothing h = all_matched
@@ -87,7 +87,7 @@ mutual
 
   completes : (xs : Prints) {ys : Prints} → AlikeAll xs ys → alikes xs ys ≡ true
   completes end no_more = refl
-  completes (then x xs) (and_then {y} a b) = and_from (alike x y) _ (complete x a) (completes xs b)
+  completes (then x xs) (and_more {y} a b) = and_from (alike x y) _ (complete x a) (completes xs b)
 
   completep : (ps : PrintPairs) {qs : PrintPairs} → Matched ps qs → matched ps qs ≡ true
   completep nothing all_matched = refl

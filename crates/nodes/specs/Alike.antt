@@ -25,7 +25,7 @@ mutual
 
   pub data AlikeAll : Prints → Prints → Type 0 where
     no_more : AlikeAll end end
-    and_then : {x y : Print} {xs ys : Prints} → Alike x y → AlikeAll xs ys → AlikeAll (then x xs) (then y ys)
+    and_more : {x y : Print} {xs ys : Prints} → Alike x y → AlikeAll xs ys → AlikeAll (then x xs) (then y ys)
 
   -- each pair of the one has a partner in the other, which is no other's partner, and none is left over
   pub data Matched : PrintPairs → PrintPairs → Type 0 where

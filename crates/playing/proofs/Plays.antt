@@ -16,26 +16,26 @@ use Rattle.nodes.specs.Tree.Node.{scalar, alias, seq, dict, cut}
 use Rattle.nodes.specs.Fields.{resolved as read}
 use Rattle.nodes.proofs.Flats.{take_flat}
 use Rattle.playing.specs.declared.replay.ReplayEvents.{ReplayEvents}
-use Rattle.playing.specs.Replay.{between, first_of, played_as, played, replay_meaning, onward, play_from, PlaysNode}
+use Rattle.playing.specs.Replay.{between, first_record, played_as, played, replay_meaning, onward, play_from, PlaysNode}
 
 -- the record at a slot
-pub first_some : (i e : ℕ) (slots : List Record) → i < min (length slots) e → first_of (between i e slots) ≡ Some (get_or slots i blank)
+pub first_some : (i e : ℕ) (slots : List Record) → i < min (length slots) e → first_record (between i e slots) ≡ Some (get_or slots i blank)
 first_some i e slots h =
     let lt : i < length (take e slots) = simp length-take (omega arith) in
-    ap first_of (drop_more (take e slots) i blank lt) ∙ ap Some (get_or-take e slots i blank (omega arith))
+    ap first_record (drop_more (take e slots) i blank lt) ∙ ap Some (get_or-take e slots i blank (omega arith))
 
 between_none : (i e : ℕ) (slots : List Record) → min (length slots) e ≤ i → between i e slots ≡ []
 between_none i e slots h = drop_all i (take e slots) (simp length-take (omega arith))
 
-pub first_none : (i e : ℕ) (slots : List Record) → min (length slots) e ≤ i → first_of (between i e slots) ≡ None
-first_none i e slots h = ap first_of (between_none i e slots h)
+pub first_none : (i e : ℕ) (slots : List Record) → min (length slots) e ≤ i → first_record (between i e slots) ≡ None
+first_none i e slots h = ap first_record (between_none i e slots h)
 
 -- the location of the first record, as it was recorded and as it is played
-pub first_own : (r : Record) (rs : List Record) → Some r ≡ first_of rs → r.location ≡ own_at unknown rs
+pub first_own : (r : Record) (rs : List Record) → Some r ≡ first_record rs → r.location ≡ own_at unknown rs
 first_own r [] h = cc
 first_own r (x ∷ xs) h = cc
 
-pub first_unknown : (rs : List Record) → None ≡ first_of rs → unknown ≡ own_at unknown rs
+pub first_unknown : (rs : List Record) → None ≡ first_record rs → unknown ≡ own_at unknown rs
 first_unknown [] h = refl
 first_unknown (x ∷ xs) h = cc
 
@@ -86,13 +86,13 @@ abbrev pub as_shown : Option Location → Bool → Option Record → Option Reco
 as_shown o b None = None
 as_shown o b (Some r) = Some (shown b (played_as o r))
 
-shows : (o : Option Location) (b : Bool) (ks : List ℕ) (rs : List Record) → Ok (as_shown o b (first_of rs)) ≡ front true ks Plain (at_front b (played o rs))
+shows : (o : Option Location) (b : Bool) (ks : List ℕ) (rs : List Record) → Ok (as_shown o b (first_record rs)) ≡ front true ks Plain (at_front b (played o rs))
 shows None b ks [] = refl
 shows (Some l) b ks [] = refl
 shows None b ks (r ∷ rs) = refl
 shows (Some l) b ks (r ∷ rs) = refl
 
-pub front_is : (s : ReplayEvents) (f : Option Record) → f ≡ first_of (between s.at s.end s.slots.now) → Ok (as_shown s.reference s.resolved f) ≡ peeked (deferred true (replay_meaning s))
+pub front_is : (s : ReplayEvents) (f : Option Record) → f ≡ first_record (between s.at s.end s.slots.now) → Ok (as_shown s.reference s.resolved f) ≡ peeked (deferred true (replay_meaning s))
 front_is s f is = ap (λ x. Ok (as_shown s.reference s.resolved x)) is ∙ shows s.reference s.resolved s.anchors.now (between s.at s.end s.slots.now)
 
 -- what is left once the first is taken

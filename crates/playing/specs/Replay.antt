@@ -15,9 +15,9 @@ use Rattle.playing.specs.declared.replay.ReplayEvents.{ReplayEvents}
 abbrev pub between : ℕ → ℕ → List Record → List Record
 between i e slots = drop i (take e slots)
 
-abbrev pub first_of : List Record → Option Record
-first_of [] = None
-first_of (r ∷ rs) = Some r
+abbrev pub first_record : List Record → Option Record
+first_record [] = None
+first_record (r ∷ rs) = Some r
 
 -- a record as it is played: as it was recorded, or with a reference
 abbrev pub played_as : Option Location → Record → Record

@@ -7,7 +7,7 @@ ghost use Rattle.events.specs.Fronts.{at_front};
 ghost use Rattle.nodes.specs.Tree.{flat};
 ghost use Rattle.nodes.specs.Fields.{resolved as read};
 ghost use Rattle.nodes.specs.Looking.{shown_with, played_with};
-ghost use Rattle.playing.specs.Replay.{between, first_of, played_as, played, past_with, replay_meaning, looked_at, onward, play_from, PlaysNode};
+ghost use Rattle.playing.specs.Replay.{between, first_record, played_as, played, past_with, replay_meaning, looked_at, onward, play_from, PlaysNode};
 
 use events::resolving::{reference_of, resolve_recursive_alias, shown_as};
 use events::source::Events;
@@ -30,7 +30,7 @@ pub struct ReplayEvents<'a> {
 
 /// The record at a slot before an end.
 fn slot_at(slots: &[Record], at: usize, end: usize) -> Option<Record>
-    ensures { result ≡ first_of (between at end slots.now) }
+    ensures { result ≡ first_record (between at end slots.now) }
 {
     if at >= slots.len().min(end) {
         return None;
