@@ -1,5 +1,7 @@
--- Every reason's number and layer.
-use Rattle.std.specs.Prelude.{ℕ}
+-- Every reason's number, layer and words, and refusals.
+use Rattle.std.specs.Prelude.{ℕ, List, ◌++◌, codes, decimal}
+use Rattle.records.specs.declared.location.Location.{Location}
+use Rattle.records.specs.declared.refusal.Refusal.{Refusal}
 use Rattle.records.specs.declared.refusal.Reason.{Reason}
 use Rattle.records.specs.declared.refusal.Reason.TheVariants.{TapeTooLong, TextTooLong, RackTooLong, WorkTooShort, PlaceOutsideText, UnknownAlias, Eof, UnexpectedContainerEnd, RackFull, PlaceOutsideRackText, TooDeep, MergeValueNotMapOrSeqOfMaps, MergeKeyNotAllowed, EntriesFull, DuplicateMappingKey, NoHeldNode, NoOutermostNode}
 use Rattle.records.specs.declared.refusal.Layer.{Layer}
@@ -42,3 +44,42 @@ layer_of EntriesFull = Collect
 layer_of (DuplicateMappingKey key) = Collect
 layer_of NoHeldNode = Call
 layer_of NoOutermostNode = Call
+
+-- a refusal for a reason at a location, where no record of a tape is faulty
+abbrev pub refused_at : Reason → Location → Refusal
+refused_at r l = record { reason = r; location = l; offset = 0 }
+
+-- what is wrong, in words
+abbrev pub complaint : Reason → List ℕ
+complaint TapeTooLong = codes "the tape has more than 65,536 records"
+complaint TextTooLong = codes "the text has more than 65,536 bytes"
+complaint RackTooLong = codes "the rack has more than 65,535 slots"
+complaint WorkTooShort = codes "the working memory is too short"
+complaint PlaceOutsideText = codes "a place of the record leaves the text"
+complaint UnknownAlias = codes "the anchor of the alias is not known"
+complaint Eof = codes "the events end inside a node"
+complaint UnexpectedContainerEnd = codes "a sequence or mapping ends where a node should begin"
+complaint RackFull = codes "the rack is full"
+complaint PlaceOutsideRackText = codes "a place of the event leaves the rack's text"
+complaint TooDeep = codes "more than 64 sequences and mappings stand in one another"
+complaint MergeValueNotMapOrSeqOfMaps = codes "what is merged is no mapping"
+complaint MergeKeyNotAllowed = codes "merge keys are not allowed here"
+complaint EntriesFull = codes "the entry table is full"
+complaint (DuplicateMappingKey key) = codes "the key stands twice in its mapping"
+complaint NoHeldNode = codes "no held node begins at this slot"
+complaint NoOutermostNode = codes "no outermost node begins at this slot"
+
+abbrev pub layer_word : Layer → List ℕ
+layer_word Call = codes "call"
+layer_word Source = codes "source"
+layer_word Capture = codes "capture"
+layer_word Collect = codes "collect"
+
+-- where a refusal arose: the faulty record's number, or else line and column
+abbrev pub whereabouts : Refusal → Reason → List ℕ
+whereabouts e PlaceOutsideText = codes ", at record " ++ decimal e.offset
+whereabouts e r = codes ", at line " ++ decimal e.location.line ++ codes ", column " ++ decimal e.location.column
+
+-- a refusal in one line
+abbrev pub report : Refusal → List ℕ
+report e = codes "refusal " ++ decimal (number_of e.reason) ++ codes " (" ++ layer_word (layer_of e.reason) ++ codes "): " ++ complaint e.reason ++ whereabouts e e.reason

@@ -18,7 +18,7 @@ impl Location {
 
 /// Why a node stands somewhere else than where it was written: not at all, through an alias at a location, or merged
 /// from a location.
-#[derive(Clone, Copy, PartialEq, Eq)]
+#[derive(Clone, Copy, PartialEq, Eq, Debug)]
 pub enum NodeOrigin {
     Direct,
     Alias(Location),

@@ -1,7 +1,7 @@
 // How a collection treats repeated keys and merge keys.
 
 /// What to do about a key that repeats an earlier one of its mapping.
-#[derive(Clone, Copy, PartialEq, Eq)]
+#[derive(Clone, Copy, PartialEq, Eq, Debug)]
 pub enum DuplicateKeyPolicy {
     Error,
     FirstWins,
@@ -9,7 +9,7 @@ pub enum DuplicateKeyPolicy {
 }
 
 /// What to do about a merge key, `<<`.
-#[derive(Clone, Copy, PartialEq, Eq)]
+#[derive(Clone, Copy, PartialEq, Eq, Debug)]
 pub enum MergeKeyPolicy {
     Merge,
     AsOrdinary,

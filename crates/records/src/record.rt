@@ -6,7 +6,7 @@ use crate::location::{Location, NodeOrigin};
 use crate::tags::SfTag;
 
 /// How a scalar was written.
-#[derive(Clone, Copy, PartialEq, Eq)]
+#[derive(Clone, Copy, PartialEq, Eq, Debug)]
 pub enum ScalarStyle {
     Plain,
     SingleQuoted,
@@ -34,14 +34,11 @@ impl Place {
 fn raw_lies_within(raw_tag: Option<Place>, text_len: usize) -> bool
     ensures { result ≡ raw_within text_len raw_tag }
 {
-    match raw_tag {
-        None => true,
-        Some(place) => place.lies_within(text_len),
-    }
+    raw_tag.is_none_or(|place| place.lies_within(text_len))
 }
 
 /// What happens in a source. An anchor is a number, 0 for none; a raw tag is the tag as it was written.
-#[derive(Clone, Copy, PartialEq, Eq)]
+#[derive(Clone, Copy, PartialEq, Eq, Debug)]
 pub enum Event {
     Scalar {
         anchor: u32,
@@ -85,7 +82,7 @@ impl Event {
 }
 
 /// An event, where it was written and why it stands here.
-#[derive(Clone, Copy, PartialEq, Eq)]
+#[derive(Clone, Copy, PartialEq, Eq, Debug)]
 pub struct Record {
     pub location: Location,
     pub origin: NodeOrigin,

@@ -1,9 +1,11 @@
 // Why a call refuses.
-ghost use Rattle.std.specs.Prelude.{◌≡◌};
-ghost use Rattle.records.specs.Refusals.{number_of, layer_of};
+ghost use Rattle.std.specs.Prelude.{◌≡◌, Some};
+ghost use Rattle.records.specs.Refusals.{number_of, layer_of, refused_at, complaint, layer_word, whereabouts, report};
 
 use crate::location::Location;
 use crate::record::Place;
+use std::error::Error;
+use std::fmt;
 
 /// The question that was answered with no, one case for each number.
 #[derive(Clone, Copy, PartialEq, Eq, Debug)]
@@ -29,7 +31,7 @@ pub enum Reason {
 }
 
 /// Which part of the reader asked the question.
-#[derive(Clone, Copy, PartialEq, Eq)]
+#[derive(Clone, Copy, PartialEq, Eq, Debug)]
 pub enum Layer {
     Call,
     Source,
@@ -74,11 +76,116 @@ impl Reason {
     pub fn layer(self) -> Layer
         ensures { result ≡ layer_of self }
     {
-        match self.number() {
-            7 | 8 => Layer::Source,
-            10..=15 => Layer::Capture,
-            16..=19 => Layer::Collect,
-            _ => Layer::Call,
+        match self {
+            Reason::PlaceOutsideText | Reason::UnknownAlias => Layer::Source,
+            Reason::Eof
+            | Reason::UnexpectedContainerEnd
+            | Reason::RackFull
+            | Reason::PlaceOutsideRackText
+            | Reason::TooDeep => Layer::Capture,
+            Reason::MergeValueNotMapOrSeqOfMaps
+            | Reason::MergeKeyNotAllowed
+            | Reason::EntriesFull
+            | Reason::DuplicateMappingKey { .. } => Layer::Collect,
+            Reason::TapeTooLong
+            | Reason::TextTooLong
+            | Reason::RackTooLong
+            | Reason::WorkTooShort
+            | Reason::NoHeldNode
+            | Reason::NoOutermostNode => Layer::Call,
+        }
+    }
+
+    /// The refusal for this reason at a location, where no record of a tape is faulty.
+    pub fn at(self, location: Location) -> Refusal
+        ensures { result ≡ refused_at self location }
+    {
+        Refusal {
+            reason: self,
+            location,
+            offset: 0,
         }
     }
 }
+
+/// What is wrong, for a reader who has no list of numbers at hand.
+impl fmt::Display for Reason {
+    ghost output = { λ x. Some (complaint x) };
+
+    fn fmt<W: fmt::Write>(&self, f: &mut fmt::Formatter<W>) -> fmt::Result {
+        f.write_str(match self {
+            Reason::TapeTooLong => "the tape has more than 65,536 records",
+            Reason::TextTooLong => "the text has more than 65,536 bytes",
+            Reason::RackTooLong => "the rack has more than 65,535 slots",
+            Reason::WorkTooShort => "the working memory is too short",
+            Reason::PlaceOutsideText => "a place of the record leaves the text",
+            Reason::UnknownAlias => "the anchor of the alias is not known",
+            Reason::Eof => "the events end inside a node",
+            Reason::UnexpectedContainerEnd =>
+                "a sequence or mapping ends where a node should begin",
+            Reason::RackFull => "the rack is full",
+            Reason::PlaceOutsideRackText => "a place of the event leaves the rack's text",
+            Reason::TooDeep => "more than 64 sequences and mappings stand in one another",
+            Reason::MergeValueNotMapOrSeqOfMaps => "what is merged is no mapping",
+            Reason::MergeKeyNotAllowed => "merge keys are not allowed here",
+            Reason::EntriesFull => "the entry table is full",
+            Reason::DuplicateMappingKey { .. } => "the key stands twice in its mapping",
+            Reason::NoHeldNode => "no held node begins at this slot",
+            Reason::NoOutermostNode => "no outermost node begins at this slot",
+        })
+    }
+}
+
+impl fmt::Display for Layer {
+    ghost output = { λ x. Some (layer_word x) };
+
+    fn fmt<W: fmt::Write>(&self, f: &mut fmt::Formatter<W>) -> fmt::Result {
+        f.write_str(match self {
+            Layer::Call => "call",
+            Layer::Source => "source",
+            Layer::Capture => "capture",
+            Layer::Collect => "collect",
+        })
+    }
+}
+
+// Where a refusal arose: at a faulty record by its number, else by its location.
+#[derive(Clone, Copy)]
+struct Whereabouts(Refusal);
+
+impl fmt::Display for Whereabouts {
+    ghost output = { λ x. Some (whereabouts x.0 x.0.reason) };
+
+    fn fmt<W: fmt::Write>(&self, f: &mut fmt::Formatter<W>) -> fmt::Result {
+        let Refusal {
+            reason,
+            location,
+            offset,
+        } = self.0;
+        match reason {
+            Reason::PlaceOutsideText => write!(f, ", at record {offset}"),
+            _ => {
+                let Location { line, column, .. } = location;
+                write!(f, ", at line {line}, column {column}")
+            }
+        }
+    }
+}
+
+/// The whole refusal in one line.
+impl fmt::Display for Refusal {
+    ghost output = { λ x. Some (report x) };
+
+    fn fmt<W: fmt::Write>(&self, f: &mut fmt::Formatter<W>) -> fmt::Result {
+        let reason = self.reason;
+        let number = reason.number();
+        let layer = reason.layer();
+        write!(
+            f,
+            "refusal {number} ({layer}): {reason}{}",
+            Whereabouts(*self)
+        )
+    }
+}
+
+impl Error for Refusal {}
