@@ -1,10 +1,11 @@
 -- What every source shares: the front before and after a peek.
-use Rattle.std.proofs.Common.{◌≡◌, ℕ, Bool, true, false, cond, not, ◌||◌, List, [], ◌∷◌, Some, Ok, Err, refl, subst}
+use Rattle.std.proofs.Common.{◌≡◌, ℕ, Bool, true, false, cond, not, ◌||◌, List, [], ◌∷◌, Some, None, Ok, Err, refl, subst}
 use Rattle.records.specs.declared.record.Event.{Event}
 use Rattle.records.specs.declared.record.Event.TheVariants.{Scalar, SeqStart, SeqEnd, MapStart, MapEnd, RecursiveAlias}
 use Rattle.records.specs.declared.record.Record.{Record}
 use Rattle.events.specs.Meaning.{Meaning, Close, Plain, Fault, known, nulled, unknown_alias, resolve, stands, front, tail, peeked, deferred}
-use Rattle.events.specs.Fronts.{null_if, at_front}
+use Rattle.events.specs.Fronts.{shown, null_if, at_front}
+use Rattle.events.specs.Reels.{foremost}
 
 pub same_meaning : (a b : Meaning) → a.events ≡ b.events → a.close ≡ b.close → a.last ≡ b.last → a.past ≡ b.past → a.deferring ≡ b.deferring → a.anchors ≡ b.anchors → a ≡ b
 same_meaning a b p q l o d k = λ i. record { events = p i; close = q i; last = l i; past = o i; deferring = d i; anchors = k i }
@@ -55,3 +56,14 @@ peek_front false true ks c (r ∷ rs) x y p q =
 pub at_front_false : (rs : List Record) → at_front false rs ≡ rs
 at_front_false [] = refl
 at_front_false (r ∷ rs) = refl
+
+-- the front of a reader, with no alias resolved, from the first record of its reel
+pub first_shown : (b : Bool) (ks : List ℕ) (c : Close) (es : List Record) (r : Record) → Ok (Some r) ≡ foremost c es → Ok (Some (shown b r)) ≡ front true ks c (at_front b es)
+first_shown b ks Plain [] r h = cc
+first_shown b ks (Fault f) [] r h = cc
+first_shown b ks c (x ∷ xs) r h = let e : r ≡ x = cc in rw e
+
+pub end_shown : (b : Bool) (ks : List ℕ) (c : Close) (es : List Record) → Ok None ≡ foremost c es → Ok None ≡ front true ks c (at_front b es)
+end_shown b ks Plain [] h = refl
+end_shown b ks (Fault f) [] h = cc
+end_shown b ks c (x ∷ xs) h = cc

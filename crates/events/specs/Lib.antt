@@ -1,4 +1,5 @@
 pub mod Meaning
 pub mod Fronts
+pub mod Reels
 pub mod Tape
 pub mod View

@@ -2,16 +2,19 @@
 use Rattle.std.specs.Prelude.{◌≡◌, ℕ, ◌+◌, ◌<◌, ◌≤◌, true, false, cond, not, ◌||◌, ◌⊎◌, List, [], ◌∷◌, ◌++◌, length, drop, Ok, Err, Result}
 use Rattle.std.specs.List.{AllByRecursion}
 use Rattle.records.specs.declared.location.Location.{Location}
+use Rattle.records.specs.declared.location.NodeOrigin.{NodeOrigin}
 use Rattle.records.specs.declared.location.NodeOrigin.TheVariants.{Direct}
 use Rattle.records.specs.declared.record.Record.{Record}
 use Rattle.records.specs.declared.refusal.Refusal.{Refusal}
 use Rattle.records.specs.declared.refusal.Reason.{Reason}
 use Rattle.records.specs.declared.refusal.Reason.TheVariants.{TapeTooLong, TextTooLong, PlaceOutsideText}
 use Rattle.records.specs.Places.{placed}
+use Rattle.records.specs.Refusals.{refused_at}
 use Rattle.records.specs.Blank.{unknown}
-use Rattle.events.specs.declared.tape.TapeReader.{TapeReader}
+use Rattle.events.specs.declared.tape.Tape.{Tape}
+use Rattle.events.specs.declared.reader.Reader.{Reader}
 use Rattle.events.specs.Meaning.{Meaning, Close, Plain, Fault, own_at}
-use Rattle.events.specs.Fronts.{at_front}
+use Rattle.events.specs.Reels.{reader_meaning}
 
 -- the fault of the i-th record of a tape, counted from 0
 abbrev pub fault_at : ℕ → Refusal
@@ -27,45 +30,26 @@ abbrev pub ends : ℕ → ℕ → List Record → Close
 ends n i [] = Plain
 ends n i (r ∷ rs) = cond (placed n r.event) (ends n (i + 1) rs) (Fault (fault_at i))
 
+-- the reel of what is left of a tape
+abbrev pub sound_records : Tape → List Record
+sound_records t = sound (length t.text.now) t.rest.now
+
+abbrev pub tape_end : Tape → Close
+tape_end t = ends (length t.text.now) t.taken t.rest.now
+
+abbrev pub tape_past : Tape → NodeOrigin
+tape_past t = Direct
+
 -- a reader that has taken some records, and may have resolved the next
-abbrev pub tape_meaning : TapeReader → Meaning
-tape_meaning s = record {
-  events = at_front s.resolved (sound (length s.text.now) (drop s.at s.tape.now));
-  close = ends (length s.text.now) s.at (drop s.at s.tape.now);
-  last = s.last;
-  past = Direct;
-  deferring = s.deferring;
-  anchors = s.anchors.now;
-}
-
--- the same once its front was looked at, and stays as it was answered
-abbrev pub looked_at : TapeReader → Meaning
-looked_at s = record {
-  events = at_front (s.resolved || not s.deferring) (sound (length s.text.now) (drop s.at s.tape.now));
-  close = ends (length s.text.now) s.at (drop s.at s.tape.now);
-  last = s.last;
-  past = Direct;
-  deferring = s.deferring;
-  anchors = s.anchors.now;
-}
-
--- the same one record on, that stood at l
-abbrev pub onward : Location → TapeReader → Meaning
-onward l s = record {
-  events = at_front false (sound (length s.text.now) (drop (s.at + 1) s.tape.now));
-  close = ends (length s.text.now) (s.at + 1) (drop (s.at + 1) s.tape.now);
-  last = l;
-  past = Direct;
-  deferring = s.deferring;
-  anchors = s.anchors.now;
-}
+abbrev pub tape_meaning : Reader Tape → Meaning
+tape_meaning = reader_meaning sound_records tape_end tape_past
 
 -- a whole tape over a text of n bytes, unread
 abbrev pub tape_from : ℕ → List Record → List ℕ → Meaning
 tape_from n rs ks = record { events = sound n rs; close = ends n 0 rs; last = own_at unknown (sound n rs); past = Direct; deferring = false; anchors = ks }
 
 abbrev pub at_making : Reason → Refusal
-at_making r = record { reason = r; location = unknown; offset = 0 }
+at_making r = refused_at r unknown
 
 -- why a tape reader is not made: the tape's length is asked first, then the text's
 abbrev pub NotMade : ℕ → ℕ → Refusal → Type 0
@@ -79,12 +63,12 @@ FirstFault n tape es c =
     ⊎ ((bad : Record) × (rest : List Record) × (tape ≡ es ++ bad ∷ rest) × (c ≡ Fault (fault_at (length es))) × (placed n bad.event ≡ false) × AllByRecursion (λ r. placed n r.event ≡ true) es)
 
 -- a reader as it is made
-pub record Fresh (text : List ℕ) (tape : List Record) (ks : List ℕ) (s : TapeReader) : Type 0 where
+pub record Fresh (text : List ℕ) (tape : List Record) (ks : List ℕ) (s : Reader Tape) : Type 0 where
   pub short : length tape ≤ 65536
   pub small : length text ≤ 65536
   pub means : tape_meaning s ≡ tape_from (length text) tape ks
   pub closes : FirstFault (length text) tape (tape_meaning s).events (tape_meaning s).close
 
-abbrev pub Made : List ℕ → List Record → List ℕ → Result TapeReader Refusal → Type 0
+abbrev pub Made : List ℕ → List Record → List ℕ → Result (Reader Tape) Refusal → Type 0
 Made text tape ks (Ok s) = Fresh text tape ks s
 Made text tape ks (Err e) = NotMade (length tape) (length text) e

@@ -9,7 +9,7 @@ use records::record::{Event, Place, Record, ScalarStyle};
 use records::tags::SfTag;
 
 /// An event whose text and raw tag are parts of the text.
-#[derive(Clone, Copy)]
+#[derive(Clone, Copy, PartialEq, Eq, Debug)]
 pub enum Ev<'t> {
     Scalar {
         value: &'t [u8],
@@ -55,10 +55,7 @@ fn raw_part<'t>(text: &'t [u8], raw_tag: Option<Place>) -> Option<&'t [u8]>
     requires { raw_within (length text.now) raw_tag ≡ true }
     ensures { option_map (λ x. x.now) result ≡ option_map (bytes_at text.now) raw_tag }
 {
-    match raw_tag {
-        None => None,
-        Some(place) => Some(part(text, place)),
-    }
+    raw_tag.map(|place| part(text, place))
 }
 
 impl<'t> Ev<'t> {

@@ -12,12 +12,7 @@ use records::tags::SfTag;
 pub fn is_listed(anchors: &[u32], anchor: u32) -> bool
     ensures { result ≡ known anchor anchors.now }
 {
-    for k in anchors {
-        if *k == anchor {
-            return true;
-        }
-    }
-    false
+    anchors.contains(&anchor)
 }
 
 /// The null that a recursive alias to an anchor is read as: a plain scalar of empty text, where the alias stands.
@@ -64,11 +59,7 @@ pub fn resolve_recursive_alias(
             if is_listed(anchors, anchor) {
                 Ok(null_of(front, anchor))
             } else {
-                Err(Refusal {
-                    reason: Reason::UnknownAlias,
-                    location: front.location,
-                    offset: 0,
-                })
+                Err(Reason::UnknownAlias.at(front.location))
             }
         }
         _ => Ok(front),

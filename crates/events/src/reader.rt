@@ -1,0 +1,100 @@
+// A reel, read as a source of events.
+ghost use Rattle.std.specs.Prelude.{◌≡◌, true, false};
+ghost use Rattle.records.specs.Blank.{unknown};
+ghost use Rattle.events.specs.Meaning.{peeked, settled, deferred, own_at};
+ghost use Rattle.events.specs.Reels.{reading, reader_meaning};
+
+use crate::reel::Reel;
+use crate::resolving::{reference_of, resolve_recursive_alias, shown_as};
+use crate::source::Events;
+use records::location::{Location, NodeOrigin};
+use records::record::Record;
+use records::refusal::Refusal;
+
+/// Reads any reel. It keeps whether the front was looked at, whether aliases are deferred, and the last location.
+#[derive(Drop)]
+pub struct Reader<'a, R> {
+    reel: R,
+    anchors: &'a [u32],
+    resolved: bool,
+    deferring: bool,
+    last: Location,
+}
+
+impl<'a, R: Reel> Reader<'a, R> {
+    /// A reader that has taken nothing, not deferring, its front marked as looked at or not.
+    pub fn start(reel: R, anchors: &'a [u32], resolved: bool) -> Reader<'a, R>
+        ensures { reader_meaning R.coming R.ending R.beyond result ≡ reading (R.coming reel) (R.ending reel) (R.beyond reel) resolved false (own_at unknown (R.coming reel)) anchors.now }
+    {
+        let last = match reel.first() {
+            Ok(Some(record)) => record.location,
+            _ => Location::UNKNOWN,
+        };
+        Reader {
+            reel,
+            anchors,
+            resolved,
+            deferring: false,
+            last,
+        }
+    }
+
+    /// The front with no alias resolved by this call.
+    fn front(&self) -> Result<Option<Record>, Refusal>
+        ensures { result ≡ peeked (deferred true (reader_meaning R.coming R.ending R.beyond self.now)) }
+    {
+        let Some(record) = self.reel.first()? else {
+            return Ok(None);
+        };
+        Ok(Some(shown_as(record, self.resolved)))
+    }
+}
+
+impl<'a, R: Reel> Events for Reader<'a, R> {
+    ghost meaning = { reader_meaning R.coming R.ending R.beyond };
+
+    fn peek(&mut self) -> Result<Option<Record>, Refusal> {
+        let Some(record) = self.front()? else {
+            return Ok(None);
+        };
+        let record = resolve_recursive_alias(record, self.deferring, self.anchors)?;
+        self.resolved |= !self.deferring;
+        Ok(Some(record))
+    }
+
+    fn next(&mut self) -> Result<Option<Record>, Refusal> {
+        let got = self.peek()?;
+        if let Some(record) = self.reel.take() {
+            self.resolved = false;
+            self.last = record.location;
+        }
+        Ok(got)
+    }
+
+    fn defer_recursive_aliases(&mut self, defer: bool) -> bool {
+        std::mem::replace(&mut self.deferring, defer)
+    }
+
+    fn known_anchors(&self) -> &[u32] {
+        self.anchors
+    }
+
+    fn node_origin(&self) -> NodeOrigin {
+        match self.front() {
+            Ok(Some(record)) => record.origin,
+            _ => self.reel.origin_past_end(),
+        }
+    }
+
+    fn reference_location(&self) -> Location {
+        let own = match self.front() {
+            Ok(Some(record)) => record.location,
+            _ => self.last,
+        };
+        reference_of(self.node_origin(), own)
+    }
+
+    fn last_location(&self) -> Location {
+        self.last
+    }
+}
