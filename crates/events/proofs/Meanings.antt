@@ -1,23 +1,13 @@
 -- What every source shares: the front before and after a peek.
-use Rattle.std.proofs.Common.{◌≡◌, ℕ, Bool, true, false, cond, not, ◌||◌, List, [], ◌∷◌, Some, None, Ok, Err, refl, subst}
+use Rattle.std.proofs.Common.{◌≡◌, ℕ, Bool, true, false, cond, not, ◌||◌, List, [], ◌∷◌, Some, Ok, Err, refl, subst}
 use Rattle.records.specs.declared.record.Event.{Event}
 use Rattle.records.specs.declared.record.Event.TheVariants.{Scalar, SeqStart, SeqEnd, MapStart, MapEnd, RecursiveAlias}
 use Rattle.records.specs.declared.record.Record.{Record}
-use Rattle.events.specs.Meaning.{Meaning, Close, Plain, Fault, known, nulled, unknown_alias, resolve, stands, front, tail, peeked, deferred}
-use Rattle.events.specs.Fronts.{shown, null_if, at_front}
-use Rattle.events.specs.Reels.{foremost}
+use Rattle.events.specs.Meaning.{Meaning, Close, Plain, Fault, known, nulled, unknown_alias, resolve, stands, front, tail}
+use Rattle.events.specs.Fronts.{null_if, at_front}
 
 pub same_meaning : (a b : Meaning) → a.events ≡ b.events → a.close ≡ b.close → a.last ≡ b.last → a.past ≡ b.past → a.deferring ≡ b.deferring → a.anchors ≡ b.anchors → a ≡ b
 same_meaning a b p q l o d k = λ i. record { events = p i; close = q i; last = l i; past = o i; deferring = d i; anchors = k i }
-
-answers : (d : Bool) (ks : List ℕ) (c : Close) (es : List Record) (x y : Record) → Ok (Some x) ≡ front true ks c es → Ok y ≡ stands d ks x → Ok (Some y) ≡ front d ks c es
-answers d ks Plain [] x y p q = cc
-answers d ks (Fault f) [] x y p q = cc
-answers d ks c (r ∷ rs) x y p q = let e : stands d ks r ≡ Ok y = cc in rw e
-
--- the answer of peek, from the front with no alias resolved
-pub peek_answer : (m : Meaning) (x y : Record) → Ok (Some x) ≡ peeked (deferred true m) → Ok y ≡ stands m.deferring m.anchors x → Ok (Some y) ≡ peeked m
-peek_answer m x y p q = answers m.deferring m.anchors m.close m.events x y p q
 
 resolved_is : (ks : List ℕ) (r y : Record) (e : Event) → Ok y ≡ resolve ks r e → y ≡ null_if r e
 resolved_is ks r y (Scalar a t w s v) q = cc
@@ -56,14 +46,3 @@ peek_front false true ks c (r ∷ rs) x y p q =
 pub at_front_false : (rs : List Record) → at_front false rs ≡ rs
 at_front_false [] = refl
 at_front_false (r ∷ rs) = refl
-
--- the front of a reader, with no alias resolved, from the first record of its reel
-pub first_shown : (b : Bool) (ks : List ℕ) (c : Close) (es : List Record) (r : Record) → Ok (Some r) ≡ foremost c es → Ok (Some (shown b r)) ≡ front true ks c (at_front b es)
-first_shown b ks Plain [] r h = cc
-first_shown b ks (Fault f) [] r h = cc
-first_shown b ks c (x ∷ xs) r h = let e : r ≡ x = cc in rw e
-
-pub end_shown : (b : Bool) (ks : List ℕ) (c : Close) (es : List Record) → Ok None ≡ foremost c es → Ok None ≡ front true ks c (at_front b es)
-end_shown b ks Plain [] h = refl
-end_shown b ks (Fault f) [] h = cc
-end_shown b ks c (x ∷ xs) h = cc

@@ -1,7 +1,6 @@
 -- What a tape reader means.
-use Rattle.std.specs.Prelude.{◌≡◌, ℕ, ◌+◌, ◌<◌, ◌≤◌, true, false, cond, not, ◌||◌, ◌⊎◌, List, [], ◌∷◌, ◌++◌, length, drop, Ok, Err, Result}
+use Rattle.std.specs.Prelude.{◌≡◌, ℕ, ◌+◌, ◌<◌, ◌≤◌, true, false, cond, ◌⊎◌, List, [], ◌∷◌, ◌++◌, length, Ok, Err, Result}
 use Rattle.std.specs.List.{AllByRecursion}
-use Rattle.records.specs.declared.location.Location.{Location}
 use Rattle.records.specs.declared.location.NodeOrigin.{NodeOrigin}
 use Rattle.records.specs.declared.location.NodeOrigin.TheVariants.{Direct}
 use Rattle.records.specs.declared.record.Record.{Record}

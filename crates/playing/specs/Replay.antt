@@ -1,23 +1,20 @@
 -- What a playback means.
-use Rattle.std.specs.Prelude.{◌≡◌, ℕ, ◌+◌, true, false, not, ◌||◌, List, [], ◌∷◌, map, take, drop, Some, None, Option}
+use Rattle.std.specs.Prelude.{◌≡◌, ℕ, ◌+◌, true, false, List, map, take, drop, Some, None, Option}
 use Rattle.records.specs.declared.location.Location.{Location}
 use Rattle.records.specs.declared.location.NodeOrigin.{NodeOrigin}
 use Rattle.records.specs.declared.location.NodeOrigin.TheVariants.{Direct, Merge}
 use Rattle.records.specs.declared.record.Record.{Record}
 use Rattle.records.specs.Blank.{unknown}
-use Rattle.events.specs.Meaning.{Meaning, Plain, own_at}
-use Rattle.events.specs.Fronts.{at_front}
+use Rattle.events.specs.declared.reader.Reader.{Reader}
+use Rattle.events.specs.Meaning.{Meaning, Close, Plain, own_at}
+use Rattle.events.specs.Reels.{reader_meaning}
 use Rattle.nodes.specs.Tree.{Node, flat, size, whole}
 use Rattle.nodes.specs.Looking.{played_with}
-use Rattle.playing.specs.declared.replay.ReplayEvents.{ReplayEvents}
+use Rattle.playing.specs.declared.replay.Replay.{Replay}
 
 -- the slots from i up to e, or up to the last
 abbrev pub between : ℕ → ℕ → List Record → List Record
 between i e slots = drop i (take e slots)
-
-abbrev pub first_record : List Record → Option Record
-first_record [] = None
-first_record (r ∷ rs) = Some r
 
 -- a record as it is played: as it was recorded, or with a reference
 abbrev pub played_as : Option Location → Record → Record
@@ -33,38 +30,19 @@ abbrev pub past_with : Option Location → NodeOrigin
 past_with None = Direct
 past_with (Some l) = Merge l
 
+-- the reel of what is left to be played
+abbrev pub recorded : Replay → List Record
+recorded s = played s.reference s.records.now
+
+abbrev pub recorded_end : Replay → Close
+recorded_end s = Plain
+
+abbrev pub recorded_past : Replay → NodeOrigin
+recorded_past s = past_with s.reference
+
 -- a playback that has taken some slots, and shows an alias at the front as its null if it was marked or looked at
-abbrev pub replay_meaning : ReplayEvents → Meaning
-replay_meaning s = record {
-  events = at_front s.resolved (played s.reference (between s.at s.end s.slots.now));
-  close = Plain;
-  last = s.last;
-  past = past_with s.reference;
-  deferring = s.deferring;
-  anchors = s.anchors.now;
-}
-
--- the same once its front was looked at, and stays as it was answered
-abbrev pub looked_at : ReplayEvents → Meaning
-looked_at s = record {
-  events = at_front (s.resolved || not s.deferring) (played s.reference (between s.at s.end s.slots.now));
-  close = Plain;
-  last = s.last;
-  past = past_with s.reference;
-  deferring = s.deferring;
-  anchors = s.anchors.now;
-}
-
--- the same one slot on, whose record stood at l
-abbrev pub onward : Location → ReplayEvents → Meaning
-onward l s = record {
-  events = at_front false (played s.reference (between (s.at + 1) s.end s.slots.now));
-  close = Plain;
-  last = l;
-  past = past_with s.reference;
-  deferring = s.deferring;
-  anchors = s.anchors.now;
-}
+abbrev pub replay_meaning : Reader Replay → Meaning
+replay_meaning = reader_meaning recorded recorded_end recorded_past
 
 -- events to be played, none of them taken
 abbrev pub play_from : NodeOrigin → List Record → List ℕ → Meaning
