@@ -4,15 +4,28 @@ ghost use Rattle.creel.specs.Files.{Says, Silent};
 
 use records::record::Record;
 use std::alloc::{AllocError, AllocFailed, Global};
+use std::error::Error;
+use std::fmt;
 use tape_file::fault::LineFault;
 use tape_file::read::read_record;
 
 /// Why no tape is read from a file: a line, counted from 1, is not the line of a record, or memory is lacking.
-#[derive(Clone, Copy)]
+#[derive(Clone, Copy, PartialEq, Eq, Debug)]
 pub enum FileFault {
     Line { number: usize, fault: LineFault },
     Memory,
 }
+
+impl fmt::Display for FileFault {
+    fn fmt<W: fmt::Write>(&self, f: &mut fmt::Formatter<W>) -> fmt::Result {
+        match self {
+            FileFault::Line { number, fault } => write!(f, "line {number}: {fault}"),
+            FileFault::Memory => f.write_str("not enough memory"),
+        }
+    }
+}
+
+impl Error for FileFault {}
 
 impl From<AllocError> for FileFault {
     fn from(_: AllocError) -> FileFault {

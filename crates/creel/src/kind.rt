@@ -54,8 +54,5 @@ fn is_of(ev: Ev, kind: Kind) -> bool
 pub fn is_of_kind(record: Record, text: &[u8], kind: Kind) -> bool
     ensures { Decides result (OfRecord kind text.now «record») }
 {
-    match Ev::of(record, text) {
-        Some(ev) => is_of(ev, kind),
-        None => false,
-    }
+    Ev::of(record, text).is_some_and(|ev| is_of(ev, kind))
 }

@@ -5,7 +5,6 @@ mod file;
 mod kind;
 mod report;
 mod walk;
-mod words;
 
 use anyhow::anyhow;
 use report::report_tape;

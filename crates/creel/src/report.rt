@@ -1,8 +1,7 @@
 // What a tape holds, in lines for a person.
-use crate::file::{FileFault, read_tape};
+use crate::file::read_tape;
 use crate::kind::Kind;
 use crate::walk::walk_to_close;
-use crate::words::InWords;
 use records::record::Record;
 use std::io;
 
@@ -27,12 +26,12 @@ fn report_events(rt: &HostRuntime, text: &[u8], tape: &[Record]) -> io::Result<(
                 println!(rt; "  {name:<18}{count:>4}")?;
                 fault = walk.fault;
             }
-            Err(refusal) => return println!(rt; "  not read: {}", InWords(refusal)),
+            Err(refusal) => return println!(rt; "  not read: {refusal}"),
         }
     }
     match fault {
         None => println!(rt; "  closes plainly"),
-        Some(fault) => println!(rt; "  closes with {}", InWords(fault)),
+        Some(fault) => println!(rt; "  closes with {fault}"),
     }
 }
 
@@ -44,7 +43,6 @@ pub fn report_tape(rt: &HostRuntime, name: &str, text: &[u8], contents: &str) ->
             println!(rt; "{name}: {count} records")?;
             report_events(rt, text, tape.as_slice())
         }
-        Err(FileFault::Line { number, fault }) => println!(rt; "{name}: line {number}: {fault}"),
-        Err(FileFault::Memory) => println!(rt; "{name}: not enough memory"),
+        Err(fault) => println!(rt; "{name}: {fault}"),
     }
 }

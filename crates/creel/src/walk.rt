@@ -22,21 +22,16 @@ pub fn walk_to_close<'a>(text: &'a [u8], tape: &'a [Record], kind: Kind) -> Resu
     let mut reader = TapeReader::new(text, tape, &[])?;
     reader.defer_recursive_aliases(true);
     let mut count = 0;
-    'events: loop {
-        let got = match reader.next() {
-            Ok(got) => got,
-            Err(fault) => {
-                return Ok(Walk {
-                    count,
-                    fault: Some(fault),
-                });
+    let fault = 'events: loop {
+        match reader.next() {
+            Ok(Some(record)) => {
+                if is_of_kind(record, text, kind) {
+                    count += 1;
+                }
             }
-        };
-        let Some(record) = got else {
-            return Ok(Walk { count, fault: None });
-        };
-        if is_of_kind(record, text, kind) {
-            count += 1;
+            Ok(None) => break 'events None,
+            Err(fault) => break 'events Some(fault),
         }
-    }
+    };
+    Ok(Walk { count, fault })
 }

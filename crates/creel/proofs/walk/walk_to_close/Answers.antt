@@ -12,32 +12,32 @@ events-init c =
 pub overflow_add-count : goal.overflow_add-count
 overflow_add-count c =
     let w = c.events.invariant in
-    let r = c.in-Some.record in
-    let p = answered _ _ _ _ _ w r _ c.in-Some.is c.in-Ok.ensures.answer in
+    let r = c.in-Ok-Some.record in
+    let p = answered _ _ _ _ _ w r _ c.in-Ok-Some.field-0-is c.in-Ok-Some.ensures.answer in
     omega (arith, bound _ _ _ _ _ w r p, c.in_ok-reader.ensures.short, sound_short (length c.args.text.now) c.args.tape.now)
 
 pub events-smaller-then-is_of_kind : goal.events-smaller-then-is_of_kind
 events-smaller-then-is_of_kind c =
     let w = c.events.invariant in
-    let r = c.in-Some.record in
-    less _ _ _ _ _ w r _ (answered _ _ _ _ _ w r _ c.in-Some.is c.in-Ok.ensures.answer) (left _ _ _ _ _ w r _ _ c.in-Some.is c.in-Ok.ensures.after)
+    let r = c.in-Ok-Some.record in
+    less _ _ _ _ _ w r _ (answered _ _ _ _ _ w r _ c.in-Ok-Some.field-0-is c.in-Ok-Some.ensures.answer) (left _ _ _ _ _ w r _ _ c.in-Ok-Some.field-0-is c.in-Ok-Some.ensures.after)
 
 pub events-preserved-then-is_of_kind : goal.events-preserved-then-is_of_kind
 events-preserved-then-is_of_kind c =
     let w = c.events.invariant in
-    let r = c.in-Some.record in
-    counts _ _ _ _ _ w r _ (answered _ _ _ _ _ w r _ c.in-Some.is c.in-Ok.ensures.answer) (left _ _ _ _ _ w r _ _ c.in-Some.is c.in-Ok.ensures.after)
+    let r = c.in-Ok-Some.record in
+    counts _ _ _ _ _ w r _ (answered _ _ _ _ _ w r _ c.in-Ok-Some.field-0-is c.in-Ok-Some.ensures.answer) (left _ _ _ _ _ w r _ _ c.in-Ok-Some.field-0-is c.in-Ok-Some.ensures.after)
     (c.is_of_kind.ensures.0 c.if-is_of_kind.true)
 
 pub events-smaller : goal.events-smaller
 events-smaller c =
     let w = c.events.invariant in
-    let r = c.in-Some.record in
-    less _ _ _ _ _ w r _ (answered _ _ _ _ _ w r _ c.in-Some.is c.in-Ok.ensures.answer) (left _ _ _ _ _ w r _ _ c.in-Some.is c.in-Ok.ensures.after)
+    let r = c.in-Ok-Some.record in
+    less _ _ _ _ _ w r _ (answered _ _ _ _ _ w r _ c.in-Ok-Some.field-0-is c.in-Ok-Some.ensures.answer) (left _ _ _ _ _ w r _ _ c.in-Ok-Some.field-0-is c.in-Ok-Some.ensures.after)
 
 pub events-preserved : goal.events-preserved
 events-preserved c =
     let w = c.events.invariant in
-    let r = c.in-Some.record in
-    passes _ _ _ _ _ w r _ (answered _ _ _ _ _ w r _ c.in-Some.is c.in-Ok.ensures.answer) (left _ _ _ _ _ w r _ _ c.in-Some.is c.in-Ok.ensures.after)
+    let r = c.in-Ok-Some.record in
+    passes _ _ _ _ _ w r _ (answered _ _ _ _ _ w r _ c.in-Ok-Some.field-0-is c.in-Ok-Some.ensures.answer) (left _ _ _ _ _ w r _ _ c.in-Ok-Some.field-0-is c.in-Ok-Some.ensures.after)
     (λ h. let e = sym (c.is_of_kind.ensures.1 h) ∙ c.if-is_of_kind.false in let z : ◌≡◌ {A = ℕ} 0 1 = cc in omega arith)
