@@ -1,5 +1,5 @@
 -- The questions for an event, and the bar of the first that is answered with no.
-use Rattle.std.proofs.Common.{◌≡◌, ℕ, ◌+◌, ◌-◌, ◌≤◌, Bool, true, false, cond, ltb, Some, None, Option, sym, refl, ◌∙◌, ⊎_elim, arith}
+use Rattle.std.proofs.Common.{◌≡◌, ℕ, ◌+◌, ◌-◌, ◌≤◌, Bool, true, false, cond, ltb, Some, None, Option, sym, refl, ap, ◌∙◌, ⊎_elim, arith}
 use Rattle.std.proofs.lemmas.Bool.{lt-ltb, le-ltb, cases_lt}
 use Rattle.records.specs.declared.refusal.Reason.{Reason}
 use Rattle.records.specs.declared.refusal.Reason.TheVariants.{UnexpectedContainerEnd, RackFull, PlaceOutsideRackText, TooDeep}
@@ -17,27 +17,16 @@ ltb_less a b = ⊎_elim (λ h. lt-ltb 0 (a - b) (omega arith) ∙ sym (lt-ltb b 
 pub ltb_more : (f n k : ℕ) → f ≤ k → ltb (f + n) k ≡ ltb n (k - f)
 ltb_more f n k h = ⊎_elim (λ g. lt-ltb (f + n) k g ∙ sym (lt-ltb n (k - f) (omega arith))) (λ g. le-ltb (f + n) k g ∙ sym (le-ltb n (k - f) (omega arith))) (cases_lt (f + n) k)
 
-first_other : (free lies low : Bool) → Some UnexpectedContainerEnd ≡ first_no free lies low → ◌≡◌ {A = ℕ} 0 1
-first_other true true true e = cc
-first_other true true false e = cc
-first_other true false low e = cc
-first_other false lies low e = cc
-
-end_by : (out free lies low : Bool) → Some UnexpectedContainerEnd ≡ cond out (Some UnexpectedContainerEnd) (first_no free lies low) → out ≡ true
-end_by true free lies low e = refl
-end_by false free lies low e = let z = first_other free lies low e in absurd (omega arith)
-
-other_by : (out free lies low : Bool) (why : Reason) → Some why ≡ cond out (Some UnexpectedContainerEnd) (first_no free lies low) → (why ≡ UnexpectedContainerEnd → ⊥) → out ≡ false
-other_by true free lies low why e h = absurd (h cc)
-other_by false free lies low why e h = refl
-
--- an event is refused as an end that is out of place exactly where it is one
+-- an end that is out of place is refused as one, and of any other event the questions are asked
 module _ (s : Spot) (free : Bool) (n : ℕ) (low : Bool) (e : Event) where
-  pub asked_end : Some UnexpectedContainerEnd ≡ asked s free n low e → misplaced s e ≡ true
-  asked_end h = end_by (misplaced s e) free (placed n e) (cond (is_start e) low true) h
+  abbrev chosen : Bool → Option Reason
+  chosen b = cond b (Some UnexpectedContainerEnd) (first_no free (placed n e) (cond (is_start e) low true))
 
-  pub asked_other : (why : Reason) → Some why ≡ asked s free n low e → (why ≡ UnexpectedContainerEnd → ⊥) → misplaced s e ≡ false
-  asked_other why h k = other_by (misplaced s e) free (placed n e) (cond (is_start e) low true) why h k
+  pub asked_out : misplaced s e ≡ true → Some UnexpectedContainerEnd ≡ asked s free n low e
+  asked_out h = ap chosen (sym h)
+
+  pub asked_in : misplaced s e ≡ false → first_no free (placed n e) (cond (is_start e) low true) ≡ asked s free n low e
+  asked_in h = ap chosen (sym h)
 
 -- the bar of a reason, i events being taken
 abbrev pub bar_by : Mark → ℕ → Option Reason → Option Bar

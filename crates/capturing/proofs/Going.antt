@@ -1,13 +1,14 @@
 -- The loop of a capture: what is taken and stored so far, and what each turn makes of it.
 use Rattle.std.proofs.Common.{◌≡◌, ℕ, ◌+◌, ◌-◌, ◌<◌, ◌≤◌, Bool, true, false, cond, ltb, List, [], ◌∷◌, ◌++◌, length, take, drop, Some, None, Ok, Err, Option, Result, sym, refl, ap, ◌∙◌, subst, ap₂, subst₂, append_assoc, arith, drop-drop, take-add}
-use Rattle.std.proofs.lemmas.List.{append-nil, take-take, take_at, take_more_set, length-take-le}
+use Rattle.std.proofs.lemmas.List.{append-nil, take-take, take_at, take_more_set, length-take-le, length-reverse}
 use Rattle.std.proofs.lemmas.Bool.{true≢false, ltb-true}
+use Rattle.arrayvec.specs.ArrayVec.{array_vec_len}
 use Rattle.records.specs.declared.record.Event.{Event}
 use Rattle.records.specs.declared.record.Record.{Record}
 use Rattle.records.specs.declared.refusal.Refusal.{Refusal}
 use Rattle.events.specs.Meaning.{Meaning, deferred}
 use Rattle.nodes.specs.Tree.{Node, Reads, size}
-use Rattle.nodes.specs.Reading.{Limits, Bar, last_in, ended_by, closing_of, or_else, bars, barred, is_start, is_end}
+use Rattle.nodes.specs.Reading.{Limits, Bar, last_in, ended_by, closing_of, or_else, bars, barred}
 use Rattle.nodes.specs.Taking.{past}
 use Rattle.nodes.proofs.Flats.{take_flat}
 use Rattle.nodes.proofs.Fits.{passed}
@@ -19,9 +20,8 @@ use Rattle.capturing.specs.declared.path.Spot.TheVariants.{Start}
 use Rattle.capturing.specs.Capturing.{limits_of, Stored, By, Captures}
 use Rattle.capturing.specs.Paths.{spots_of, is_done, follow, misplaced, asked}
 use Rattle.capturing.specs.Storing.{StoredOne, RefusedOne, none_comes, one_comes}
-use Rattle.capturing.proofs.Stacks.{stack_length}
 use Rattle.capturing.proofs.Asks.{ltb_less, ltb_more}
-use Rattle.capturing.proofs.Lefts.{Left, nothing, start, element, key, value, flat_l, size_l, level_l, spot_l, around_l, spots_l, around_length, SoundL, bars_l, Front, left-front, end_inside}
+use Rattle.capturing.proofs.Lefts.{Left, nothing, start, element, key, value, flat_l, size_l, level_l, spot_l, around_l, spots_l, around_length, SoundL, bars_l, Front, left-front}
 use Rattle.capturing.proofs.Turns.{Fine, fine_from, told, next_event, no_event, refused_event}
 
 -- of the source m0, which reads as t, so many events are taken and stand behind the first f slots; o is left
@@ -69,8 +69,8 @@ begun m0 ss0 f text opened d h =
 pub at_spot : (q : Path) (o : Left) → spots_of q ≡ spots_l o → q.spot ≡ spot_l o
 at_spot q o e = cc
 
-pub at_level : (q : Path) (o : Left) → spots_of q ≡ spots_l o → q.depth ≡ level_l o
-at_level q o e = let h = ap length e in omega (arith, stack_length q.around q.depth, around_length o)
+pub at_level : (q : Path) (o : Left) → spots_of q ≡ spots_l o → array_vec_len q.around ≡ level_l o
+at_level q o e = let h = ap length e in omega (arith, length-reverse q.around.items, around_length o)
 
 done_is : (o : Left) → is_done (spot_l o) ≡ true → o ≡ nothing
 done_is nothing h = refl
@@ -90,28 +90,28 @@ module _ (m0 : Meaning) (ss0 : List Record) (f text opened : ℕ) (t : Node) (re
       ∙ ap (take f) g.held
       ∙ take_at (take f ss0) (take g.taken m0.events) f (length-take-le f ss0 g.room)
 
-  refuses : (b : Bar) (e : Refusal) (m' : Meaning) (ss' : List Record) (f' : ℕ) → barred L t ≡ Some b → e ≡ b.why → m' ≡ past b.taken m0 → ss' ≡ ss → f' ≡ f → Captures L m0 ss0 f (Err e) m' ss' f'
-  refuses b e m' ss' f' h w p q z u r rd =
+  refuses : (b : Bar) (e : Refusal) (m' : Meaning) (ss' : List Record) → barred L t ≡ Some b → e ≡ b.why → m' ≡ past b.taken m0 → ss' ≡ ss → Captures L m0 ss0 f (Err e) m' ss' f
+  refuses b e m' ss' h w p q u r rd =
       let same-tree = (reads_unique m0.events t u rest r g.reads rd).0 in
-      subst (λ x. By m0 ss0 f u x (Err e) m' ss' f') (sym (ap (barred L) (sym same-tree) ∙ h))
-      (record { why = w; filled = z; holds = ap (take f) q ∙ kept; left = p })
+      subst (λ x. By m0 ss0 f u x (Err e) m' ss' f) (sym (ap (barred L) (sym same-tree) ∙ h))
+      (record { why = w; filled = refl; holds = ap (take f) q ∙ kept; left = p })
 
   -- nothing is left: the node is read
-  stores : (f' : ℕ) → o ≡ nothing → f' ≡ fill → Captures L m0 ss0 f (Ok (record { first = f; count = fill - f })) m ss f'
-  stores f' e z u r rd =
+  stores : o ≡ nothing → Captures L m0 ss0 f (Ok (record { first = f; count = fill - f })) m ss fill
+  stores e u r rd =
       let c : Captured = record { first = f; count = fill - f } in
       let none : barred L t ≡ None = g.bar ∙ ap (bars_l L g.taken) e in
       let n : g.taken ≡ size t = omega (arith, g.count, ap size_l e) in
       let w = (passed L L.deep 0 t none).whole in
-      let st : Stored m0 ss0 f t c m ss f' = record {
+      let st : Stored m0 ss0 f t c m ss fill = record {
         first = refl;
         count = omega (arith, g.filled);
         filled = omega (arith, g.filled);
-        holds = ap (λ x. take x ss) z ∙ g.held ∙ ap (λ x. take f ss0 ++ x) (ap₂ take n g.reads.is ∙ take_flat t rest w);
+        holds = g.held ∙ ap (λ x. take f ss0 ++ x) (ap₂ take n g.reads.is ∙ take_flat t rest w);
         left = g.source ∙ ap (λ x. past x m0) n;
       } in
       let same-tree = (reads_unique m0.events t u rest r g.reads rd).0 in
-      subst (λ v. By m0 ss0 f v (barred L v) (Ok c) m ss f') same-tree (subst (λ x. By m0 ss0 f t x (Ok c) m ss f') (sym none) st)
+      subst (λ v. By m0 ss0 f v (barred L v) (Ok c) m ss fill) same-tree (subst (λ x. By m0 ss0 f t x (Ok c) m ss fill) (sym none) st)
 
 -- the loop's invariant: the path stands where what is left begins
 pub record Loop (m0 : Meaning) (ss0 : List Record) (f text opened : ℕ) (m : Meaning) (ss : List Record) (fill : ℕ) (path : Path) : Type 0 where
@@ -135,15 +135,9 @@ begin m0 ss0 f text opened path d h p =
     }
 
 module _ (m0 : Meaning) (ss0 : List Record) (f text opened : ℕ) (m : Meaning) (ss : List Record) (fill : ℕ) (path : Path) (h : Loop m0 ss0 f text opened m ss fill path) (same : length ss ≡ length ss0) where
-  pub defers_still : m.deferring ≡ true
-  defers_still = ap (λ x. x.deferring) h.going.source ∙ h.going.defers
-
-  pub fill_short : fill ≤ length ss
-  fill_short = omega (arith, h.going.short)
-
-  module _ (deep : ℕ) (deeps : deep ≡ 64 - opened) where
+  module _ (deep : ℕ) (deeps : deep ≡ 64 - opened) (long : ℕ) (longs : long ≡ text) (level : ℕ) (levels : level ≡ array_vec_len path.around) where
     abbrev low : Bool
-    low = ltb path.depth deep
+    low = ltb level deep
 
     here : path.spot ≡ spot_l h.left
     here = at_spot path h.left h.spots
@@ -156,42 +150,31 @@ module _ (m0 : Meaning) (ss0 : List Record) (f text opened : ℕ) (m : Meaning) 
         subst₂ (λ x es. Front l h.rest n x (around_l o) (l.deep - level_l o) (bars_l l n o) (size_l o) es) (sym here) (sym (ap (λ x. x.events) h.going.source ∙ h.going.comes))
         (left-front l h.rest n o (ap is_done (sym here) ∙ h.on) h.going.sound)
 
-    same_asked : (e : Event) → asked path.spot (ltb fill (length ss)) text low e ≡ asked path.spot (ltb h.going.taken (length ss0 - f)) text (ltb 0 (64 - opened - level_l h.left)) e
+    same_asked : (e : Event) → asked path.spot (ltb fill (length ss)) long low e ≡ asked path.spot (ltb h.going.taken (length ss0 - f)) text (ltb 0 (64 - opened - level_l h.left)) e
     same_asked e =
-        ap₂ (λ a b. asked path.spot a text b e)
+        ap (λ n. asked path.spot (ltb fill (length ss)) n low e) longs
+        ∙ ap₂ (λ a b. asked path.spot a text b e)
         (ap₂ ltb h.going.filled same ∙ ltb_more f h.going.taken (length ss0) h.going.room)
-        (ap₂ ltb (at_level path h.left h.spots) deeps ∙ sym (ltb_less (64 - opened) (level_l h.left)))
+        (ap₂ ltb (levels ∙ at_level path h.left h.spots) deeps ∙ sym (ltb_less (64 - opened) (level_l h.left)))
 
-    pub turn-refused : (e : Refusal) (m' : Meaning) (ss' : List Record) (f' : ℕ) → RefusedOne path.spot text low m ss fill e m' ss' → f' ≡ f → Captures (limits_of ss0 f text opened m0) m0 ss0 f (Err e) m' ss' f'
-    turn-refused e m' ss' f' (none_comes q p z) w =
+    pub turn-refused : (e : Refusal) (m' : Meaning) (ss' : List Record) → RefusedOne path.spot long low m ss fill e m' ss' → Captures (limits_of ss0 f text opened m0) m0 ss0 f (Err e) m' ss' f
+    turn-refused e m' ss' (none_comes q p z) =
         let g = h.going in
         let (a, b, d) = no_event _ _ _ _ _ _ _ _ front-here m.close m.last e q in
         let why = b ∙ ap (λ es. ended_by m.close (last_in m.last es)) (sym a) ∙ ap closing_of g.source ∙ closing_past g.taken m0 in
-        refuses _ _ _ _ _ _ _ _ _ _ _ g (record { why = closing_of m0; taken = g.taken }) e m' ss' f' (g.bar ∙ d) why (p ∙ g.source) z w
-    turn-refused e m' ss' f' (one_comes r why q x k p z) w =
+        refuses _ _ _ _ _ _ _ _ _ _ _ g (record { why = closing_of m0; taken = g.taken }) e m' ss' (g.bar ∙ d) why (p ∙ g.source) z
+    turn-refused e m' ss' (one_comes r why q x k p z) =
         let g = h.going in
         let n : ℕ = cond (misplaced path.spot r.event) 1 0 in
         let b = refused_event _ _ _ _ _ _ _ _ front-here m.close m.last r why q (k ∙ same_asked r.event) in
-        refuses _ _ _ _ _ _ _ _ _ _ _ g (told path.spot g.taken why r) e m' ss' f' (g.bar ∙ b) x (p ∙ ap (past n) g.source ∙ past_more g.taken n m0) z w
+        refuses _ _ _ _ _ _ _ _ _ _ _ g (told path.spot g.taken why r) e m' ss' (g.bar ∙ b) x (p ∙ ap (past n) g.source ∙ past_more g.taken n m0) z
 
-    module _ (e : Event) (m' : Meaning) (ss' : List Record) (f' : ℕ) (k : StoredOne path.spot text low m ss fill e m' ss' f') where
-      fine : Fine path.spot (ltb fill (length ss)) text low k.first.event
-      fine = fine_from path.spot (ltb fill (length ss)) text low k.first.event k.fine
+    module _ (e : Event) (m' : Meaning) (ss' : List Record) (f' : ℕ) (k : StoredOne path.spot long low m ss fill e m' ss' f') where
+      fine : Fine path.spot (ltb fill (length ss)) long low k.first.event
+      fine = fine_from path.spot (ltb fill (length ss)) long low k.first.event k.fine
 
       free : fill < length ss
       free = ltb-true fill (length ss) fine.free_slot
-
-      -- the path has room for the event
-      pub room_in : is_start e ≡ true → path.depth < 64
-      room_in b = let d = ltb-true path.depth deep (fine.may_open (ap is_start (sym k.is) ∙ b)) in omega arith
-
-      pub room_out : is_end e ≡ true → 0 < path.depth
-      room_out b =
-          let d = end_inside h.left k.first.event (ap (λ x. misplaced x k.first.event) (sym here) ∙ fine.in_place) (ap is_end (sym k.is) ∙ b) in
-          omega (arith, at_level path h.left h.spots)
-
-      pub turn-less : length ss0 - f' < length ss0 - fill
-      turn-less = omega (arith, free, k.fill)
 
       gone_on : (o : Left) × Going m0 ss0 f text opened h.node h.rest m' ss' f' o × (spots_l o ≡ follow (spots_of path) e)
       gone_on =
@@ -225,11 +208,11 @@ module _ (m0 : Meaning) (ss0 : List Record) (f text opened : ℕ) (m : Meaning) 
         pub turn_on : last ≡ false → Loop m0 ss0 f text opened m' ss' f' path'
         turn_on b = let (o, g, p) = gone_on in record { node = h.node; rest = h.rest; left = o; going = g; spots = steps ∙ sym p; on = sym ends ∙ b }
 
-        pub turn_last : last ≡ true → (f'' : ℕ) → f'' ≡ f' → Captures (limits_of ss0 f text opened m0) m0 ss0 f (Ok (record { first = f; count = f' - f })) m' ss' f''
-        turn_last b f'' z =
+        pub turn_last : last ≡ true → Captures (limits_of ss0 f text opened m0) m0 ss0 f (Ok (record { first = f; count = f' - f })) m' ss' f'
+        turn_last b =
             let (o, g, p) = gone_on in
             let d = done_is o (ap is_done (sym (at_spot path' o (steps ∙ sym p))) ∙ sym ends ∙ b) in
-            stores _ _ _ _ _ _ _ _ _ _ _ g f'' d z
+            stores _ _ _ _ _ _ _ _ _ _ _ g d
 
 -- with the deferral as it was
 by_restored : (m : Meaning) (ss : List Record) (f : ℕ) (t : Node) (o : Option Bar) (r : Result Captured Refusal) (m2 : Meaning) (ss' : List Record) (f' : ℕ) → By (deferred true m) ss f t o r m2 ss' f' → By m ss f t o r (deferred m.deferring m2) ss' f'
@@ -238,9 +221,12 @@ by_restored m ss f t None (Err e) m2 ss' f' k = k
 by_restored m ss f t (Some b) (Ok c) m2 ss' f' k = k
 by_restored m ss f t (Some b) (Err e) m2 ss' f' k = record { why = k.why; filled = k.filled; holds = k.holds; left = ap (deferred m.deferring) k.left }
 
-pub restored : (m m1 m2 m3 : Meaning) (old : Bool) (ss : List Record) (f text opened : ℕ) (r : Result Captured Refusal) (ss' : List Record) (f' : ℕ) → old ≡ m.deferring → m1 ≡ deferred true m → Captures (limits_of ss f text opened m1) m1 ss f r m2 ss' f' → m3 ≡ deferred old m2
-    → Captures (limits_of ss f text opened m) m ss f r m3 ss' f'
-restored m m1 m2 m3 old ss f text opened r ss' f' o e1 k e3 t rest h =
+pub restored : (m m1 m2 m3 : Meaning) (old : Bool) (ss : List Record) (f text opened : ℕ) (r r' : Result Captured Refusal) (ss' ss'' : List Record) (f' f'' : ℕ) → Captures (limits_of ss f text opened m1) m1 ss f r m2 ss' f' → m1 ≡ deferred true m → old ≡ m.deferring
+    → m3 ≡ deferred old m2 → r' ≡ r → ss'' ≡ ss' → f'' ≡ f' → Captures (limits_of ss f text opened m) m ss f r' m3 ss'' f''
+restored m m1 m2 m3 old ss f text opened r r' ss' ss'' f' f'' k e1 o e3 rs ses fs t rest h =
     let k' = subst (λ x. Captures (limits_of ss f text opened x) x ss f r m2 ss' f') e1 k t rest h in
-    subst (λ x. By m ss f t (barred (limits_of ss f text opened m) t) r x ss' f') (sym (e3 ∙ ap (λ d. deferred d m2) o))
-    (by_restored m ss f t (barred (limits_of ss f text opened m) t) r m2 ss' f' k')
+    let l = limits_of ss f text opened m in
+    let b = by_restored m ss f t (barred l t) r m2 ss' f' k' in
+    subst (λ x. By m ss f t (barred l t) r' x ss'' f'') (sym (e3 ∙ ap (λ d. deferred d m2) o))
+    (subst (λ x. By m ss f t (barred l t) x (deferred m.deferring m2) ss'' f'') (sym rs)
+    (subst₂ (λ x y. By m ss f t (barred l t) r (deferred m.deferring m2) x y) (sym ses) (sym fs) b))

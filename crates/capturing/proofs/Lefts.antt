@@ -1,8 +1,7 @@
 -- What is left to read of a node, from where its reading stands out to its end.
-use Rattle.std.proofs.Common.{◌≡◌, ℕ, suc, ◌+◌, ◌-◌, ◌<◌, true, false, cond, ltb, List, [], ◌∷◌, length, Some, None, Option, sym, refl, ap, ◌∙◌, subst, ap₂, subst₂, ⊎_elim, arith}
+use Rattle.std.proofs.Common.{◌≡◌, ℕ, suc, ◌+◌, ◌-◌, true, false, cond, ltb, List, [], ◌∷◌, length, Some, None, Option, sym, refl, ap, ◌∙◌, subst, ap₂, subst₂, ⊎_elim, arith}
 use Rattle.std.proofs.lemmas.Bool.{true≢false, cases_Bool}
-use Rattle.records.specs.declared.record.Event.{Event}
-use Rattle.records.specs.declared.record.Event.TheVariants.{Scalar, SeqStart, SeqEnd, MapStart, MapEnd, RecursiveAlias}
+use Rattle.records.specs.declared.record.Event.TheVariants.{SeqEnd, MapEnd, RecursiveAlias}
 use Rattle.records.specs.declared.record.Record.{Record}
 use Rattle.records.specs.declared.refusal.Reason.TheVariants.{UnexpectedContainerEnd}
 use Rattle.records.specs.Places.{placed}
@@ -12,11 +11,11 @@ use Rattle.nodes.specs.Tree.Cut.{ended, stray}
 use Rattle.nodes.specs.Tree.Node.{scalar, alias, seq, dict, cut}
 use Rattle.nodes.specs.Tree.Nodes.{none, more}
 use Rattle.nodes.specs.Tree.Pairs.{done, pair}
-use Rattle.nodes.specs.Reading.{Limits, Bar, or_else, bar_at, start_at, bars, barss, barsp, is_start, is_end}
+use Rattle.nodes.specs.Reading.{Limits, Bar, or_else, bar_at, start_at, bars, barss, barsp, is_start}
 use Rattle.nodes.proofs.Sounds.{sounds_behind, sounds_none, soundp_value, soundp_behind, soundp_none, soundp_neither}
 use Rattle.capturing.specs.declared.path.Spot.{Spot}
 use Rattle.capturing.specs.declared.path.Spot.TheVariants.{Start, Element, Key, Value, Done}
-use Rattle.capturing.specs.Paths.{beyond, is_done, follow, no_seq_end, no_map_end, misplaced, first_no}
+use Rattle.capturing.specs.Paths.{beyond, is_done, follow, misplaced, first_no}
 use Rattle.capturing.proofs.Asks.{bar_by, asks_start, asks_leaf, asks_slot}
 
 -- nothing; the node itself; or what a container and those around it still have
@@ -95,22 +94,6 @@ soundp_rest k v ps s = ⊎_elim
 or_assoc : (a b c : Option Bar) → or_else (or_else a b) c ≡ or_else a (or_else b c)
 or_assoc None b c = refl
 or_assoc (Some x) b c = refl
-
--- an end closes the container that it stands in
-no_end : (s : Spot) → no_seq_end s ≡ true → no_map_end s ≡ true → (e : Event) → misplaced s e ≡ false → is_end e ≡ true → ⊥
-no_end s a b (Scalar c t w y v) h k = true≢false (sym k)
-no_end s a b (SeqStart c t w) h k = true≢false (sym k)
-no_end s a b SeqEnd h k = true≢false (sym a ∙ h)
-no_end s a b (MapStart c t w) h k = true≢false (sym k)
-no_end s a b MapEnd h k = true≢false (sym b ∙ h)
-no_end s a b (RecursiveAlias c) h k = true≢false (sym k)
-
-pub end_inside : (o : Left) (e : Event) → misplaced (spot_l o) e ≡ false → is_end e ≡ true → 0 < level_l o
-end_inside nothing e h k = absurd (no_end Done refl refl e h k)
-end_inside (start t) e h k = absurd (no_end Start refl refl e h k)
-end_inside (element ns o) e h k = omega arith
-end_inside (key ps o) e h k = omega arith
-end_inside (value v ps o) e h k = omega arith
 
 module _ (l : Limits) where
   -- what bars the rest, i events being taken

@@ -1,4 +1,3 @@
-mod Stacks
 mod Asks
 mod Lefts
 mod Turns

@@ -20,14 +20,11 @@ use Rattle.capturing.proofs.Lefts.{Left, flat_l, size_l, spots_l, SoundL, bars_l
 pub record Fine (s : Spot) (free : Bool) (n : ℕ) (low : Bool) (e : Event) : Type 0 where
   pub in_place : misplaced s e ≡ false
   pub free_slot : free ≡ true
-  pub may_open : is_start e ≡ true → low ≡ true
   pub all_yes : first_no free (placed n e) (cond (is_start e) low true) ≡ None
 
-fine_by : (out free lies low : Bool) → None ≡ cond out (Some UnexpectedContainerEnd) (first_no free lies low) → (out ≡ false) × (free ≡ true) × (low ≡ true)
+fine_by : (out free lies low : Bool) → None ≡ cond out (Some UnexpectedContainerEnd) (first_no free lies low) → (out ≡ false) × (free ≡ true)
 fine_by true free lies low h = let z : ◌≡◌ {A = ℕ} 0 1 = cc in absurd (omega arith)
-fine_by false true true true h = (refl, refl, refl)
-fine_by false true true false h = let z : ◌≡◌ {A = ℕ} 0 1 = cc in absurd (omega arith)
-fine_by false true false low h = let z : ◌≡◌ {A = ℕ} 0 1 = cc in absurd (omega arith)
+fine_by false true lies low h = (refl, refl)
 fine_by false false lies low h = let z : ◌≡◌ {A = ℕ} 0 1 = cc in absurd (omega arith)
 
 pub fine_from : (s : Spot) (free : Bool) (n : ℕ) (low : Bool) (e : Event) → None ≡ asked s free n low e → Fine s free n low e
@@ -36,7 +33,6 @@ fine_from s free n low e h =
     record {
       in_place = p.0;
       free_slot = p.1;
-      may_open = λ b. ap (λ x. cond x low true) (sym b) ∙ p.2;
       all_yes = sym (h ∙ ap (λ x. cond x (Some UnexpectedContainerEnd) (first_no free (placed n e) (cond (is_start e) low true))) p.0);
     }
 

@@ -1,3 +1,4 @@
 pub mod Capturing
+pub mod Filling
 pub mod Paths
 pub mod Storing

@@ -1,5 +1,5 @@
 -- Where an event may stand, and what is asked of it.
-use Rattle.std.specs.Prelude.{ℕ, zero, suc, Bool, true, false, cond, List, [], ◌∷◌, Some, None, Ok, Err, Option, Result, slice_index_or}
+use Rattle.std.specs.Prelude.{ℕ, Bool, true, false, cond, List, [], ◌∷◌, reverse, Some, None, Ok, Err, Option, Result}
 use Rattle.records.specs.declared.location.Location.{Location}
 use Rattle.records.specs.declared.record.Event.{Event}
 use Rattle.records.specs.declared.record.Event.TheVariants.{Scalar, SeqStart, SeqEnd, MapStart, MapEnd, RecursiveAlias}
@@ -14,14 +14,9 @@ use Rattle.capturing.specs.declared.path.Path.{Path}
 use Rattle.capturing.specs.declared.path.Spot.{Spot}
 use Rattle.capturing.specs.declared.path.Spot.TheVariants.{Start, Element, Key, Value, Done}
 
--- the first d of some spots, the last of them first
-abbrev pub stack : List Spot → ℕ → List Spot
-stack ss zero = []
-stack ss (suc d) = slice_index_or ss d Start ∷ stack ss d
-
 -- the spots of a path, from the inside out
 abbrev pub spots_of : Path → List Spot
-spots_of p = p.spot ∷ stack p.around p.depth
+spots_of p = p.spot ∷ reverse p.around.items
 
 abbrev pub outward : List Spot → List Spot
 outward [] = []

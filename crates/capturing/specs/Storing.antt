@@ -7,6 +7,7 @@ use Rattle.records.specs.declared.refusal.Refusal.{Refusal}
 use Rattle.events.specs.Meaning.{Meaning}
 use Rattle.nodes.specs.Reading.{refusal}
 use Rattle.nodes.specs.Taking.{past}
+use Rattle.capturing.specs.declared.filling.FillGuard.{FillGuard}
 use Rattle.capturing.specs.declared.path.Spot.{Spot}
 use Rattle.capturing.specs.Paths.{misplaced, asked, first_record}
 
@@ -24,6 +25,6 @@ pub data RefusedOne (s : Spot) (text : ℕ) (low : Bool) (m : Meaning) (ss : Lis
   none_comes : Err e ≡ first_record m → m' ≡ m → ss' ≡ ss → RefusedOne s text low m ss f e m' ss'
   one_comes : (r : Record) (why : Reason) → Ok r ≡ first_record m → e ≡ refusal why r.location → Some why ≡ asked s (nat_lt f (length ss)) text low r.event → m' ≡ past (cond (misplaced s r.event) 1 0) m → ss' ≡ ss → RefusedOne s text low m ss f e m' ss'
 
-abbrev pub One : Spot → ℕ → Bool → Meaning → List Record → ℕ → Result Event Refusal → Meaning → List Record → ℕ → Type 0
-One s text low m ss f (Ok e) m' ss' f' = StoredOne s text low m ss f e m' ss' f'
-One s text low m ss f (Err e) m' ss' f' = RefusedOne s text low m ss f e m' ss'
+abbrev pub One : Spot → Bool → Meaning → FillGuard → Result Event Refusal → Meaning → FillGuard → Type 0
+One s low m a (Ok e) m' b = StoredOne s a.text_len low m a.slots.now a.fill.now e m' b.slots.now b.fill.now
+One s low m a (Err e) m' b = RefusedOne s a.text_len low m a.slots.now a.fill.now e m' b.slots.now

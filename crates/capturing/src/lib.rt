@@ -4,7 +4,8 @@
 
 pub mod captured;
 pub mod capturing;
-mod front;
+mod deferring;
+mod filling;
 mod path;
 mod question;
 mod stepping;

@@ -1,10 +1,14 @@
 // Where the next event of a node stands, and where those behind the containers around it do.
-ghost use Rattle.std.specs.Prelude.{◌≤◌};
+use arrayvec::ArrayVec;
+
+/// At most so many containers may be open in one another.
+pub(crate) const MAX_OPEN: usize = 64;
 
 /// Where an event stands.
-#[derive(Clone, Copy)]
+#[derive(Clone, Copy, Default)]
 pub(crate) enum Spot {
     /// The node itself.
+    #[default]
     Start,
     /// An element of a sequence, or its end.
     Element,
@@ -16,11 +20,9 @@ pub(crate) enum Spot {
     Done,
 }
 
-/// The spot of the next event, and for each open container the spot behind it.
+/// The spot of the next event, and for each open container the spot behind it, from the outside in.
 #[derive(Drop)]
 pub(crate) struct Path {
     pub(crate) spot: Spot,
-    pub(crate) around: [Spot; 64],
-    pub(crate) depth: usize,
-    ghost ok: { depth ≤ 64 },
+    pub(crate) around: ArrayVec<Spot, MAX_OPEN>,
 }

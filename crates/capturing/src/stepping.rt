@@ -1,10 +1,12 @@
 // The way of a path through the events of a node.
 ghost use Rattle.std.specs.Prelude.{◌≡◌, ◌<◌, true, [], ◌∷◌};
+ghost use Rattle.arrayvec.specs.ArrayVec.{array_vec_len};
 ghost use Rattle.capturing.specs.declared.path.Spot.TheVariants.{Start};
 ghost use Rattle.nodes.specs.Reading.{is_start, is_end};
-ghost use Rattle.capturing.specs.Paths.{spots_of, beyond, is_done, follow, outward};
+ghost use Rattle.capturing.specs.Paths.{spots_of, beyond, is_done, onward, follow, outward};
 
 use crate::path::{Path, Spot};
+use arrayvec::ArrayVec;
 use records::record::Event;
 
 impl Spot {
@@ -24,10 +26,7 @@ impl Spot {
     fn is_done(self) -> bool
         ensures { result ≡ is_done self }
     {
-        match self {
-            Spot::Done => true,
-            _ => false,
-        }
+        matches!(self, Spot::Done)
     }
 }
 
@@ -38,47 +37,39 @@ impl Path {
     {
         Path {
             spot: Spot::Start,
-            around: [Spot::Start; 64],
-            depth: 0,
+            around: ArrayVec::new(),
         }
     }
 
-    /// Goes into a container.
+    /// Goes into a container, behind which the next event stands behind a whole node.
     fn enter(&mut self, inner: Spot)
-        requires { self.old.depth < 64 }
-        ensures { spots_of self.new ≡ inner ∷ spots_of self.old }
+        requires { array_vec_len self.old.around < 64 }
+        ensures { spots_of self.new ≡ inner ∷ onward (spots_of self.old) }
     {
-        let d = self.depth;
-        self.around[d] = self.spot;
-        self.depth = d + 1;
+        self.around.push(self.spot.beyond());
         self.spot = inner;
     }
 
     /// Goes out of the innermost container.
     fn leave(&mut self)
-        requires { 0 < self.old.depth }
+        requires { 0 < array_vec_len self.old.around }
         ensures { spots_of self.new ≡ outward (spots_of self.old) }
     {
-        let d = self.depth - 1;
-        self.spot = self.around[d];
-        self.depth = d;
+        self.spot = self.around.pop().unwrap();
     }
 
     /// Goes past an event, and says whether the node ends with it.
     pub(crate) fn step(&mut self, event: Event) -> bool
-        requires room { is_start event ≡ true → self.old.depth < 64 }
-        requires inner { is_end event ≡ true → 0 < self.old.depth }
+        requires room { is_start event ≡ true → array_vec_len self.old.around < 64 }
+        requires inner { is_end event ≡ true → 0 < array_vec_len self.old.around }
         ensures last { result ≡ is_done self.new.spot }
         ensures on { spots_of self.new ≡ follow (spots_of self.old) event }
     {
         match event {
-            Event::SeqEnd | Event::MapEnd => self.leave(),
-            _ => self.spot = self.spot.beyond(),
-        }
-        match event {
             Event::SeqStart { .. } => self.enter(Spot::Element),
             Event::MapStart { .. } => self.enter(Spot::Key),
-            _ => {}
+            Event::SeqEnd | Event::MapEnd => self.leave(),
+            Event::Scalar { .. } | Event::RecursiveAlias { .. } => self.spot = self.spot.beyond(),
         }
         self.spot.is_done()
     }

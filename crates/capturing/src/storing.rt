@@ -1,41 +1,34 @@
 // One event, from a source into the slots.
-ghost use Rattle.std.specs.Prelude.{◌≡◌, ◌≤◌, true, length};
+ghost use Rattle.std.specs.Prelude.{◌≡◌};
+ghost use Rattle.capturing.specs.Filling.{GoesOn};
 ghost use Rattle.capturing.specs.Storing.{One};
 
-use crate::front::{front, take_off};
+use crate::deferring::Deferring;
+use crate::filling::FillGuard;
 use crate::path::Spot;
-use crate::question::question;
+use crate::question::{is_misplaced, question};
 use events::source::Events;
-use records::record::{Event, Record};
+use records::record::Event;
 use records::refusal::{Reason, Refusal};
 
 /// Stores and takes the next event, which comes at `spot`, where a container may be opened or not.
 pub(crate) fn store_event<S: Events>(
-    source: &mut S,
-    text_len: usize,
-    slots: &mut [Record],
-    fill: &mut usize,
+    source: &mut Deferring<'_, S>,
+    filling: &mut FillGuard<'_>,
     spot: Spot,
     low: bool,
 ) -> Result<Event, Refusal>
-    requires defers { (S.meaning source.old).deferring ≡ true }
-    requires filled { fill.old ≤ length slots.old }
-    ensures { One spot text_len low (S.meaning source.old) slots.old fill.old result (S.meaning source.new) slots.new fill.new }
+    ensures one { One spot low (S.meaning source.old.source.now) filling.old result (S.meaning source.new.source.now) filling.new }
+    ensures goes_on { GoesOn filling.old filling.new }
+    ensures same_reference { source.new.source.ghost_name ≡ source.old.source.ghost_name }
 {
-    let record = front(source)?;
-    let at = *fill;
-    if let Some(reason) = question(spot, at < slots.len(), text_len, low, record.event) {
-        if let Reason::UnexpectedContainerEnd = reason {
-            take_off(source);
-        }
-        return Err(Refusal {
-            reason,
-            location: record.location,
-            offset: 0,
-        });
+    let record = source.front()?;
+    if is_misplaced(spot, record.event) {
+        source.take_off();
+        return Err(Reason::UnexpectedContainerEnd.at(record.location));
     }
-    slots[at] = record;
-    *fill = at + 1;
-    take_off(source);
+    question(record, filling.has_room(), filling.text_len, low)?;
+    filling.store(record);
+    source.take_off();
     Ok(record.event)
 }
