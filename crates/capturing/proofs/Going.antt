@@ -28,10 +28,8 @@ use Rattle.capturing.proofs.Turns.{Fine, fine_from, told, next_event, no_event, 
 pub record Going (m0 : Meaning) (ss0 : List Record) (f text opened : ℕ) (t : Node) (rest : List Record) (m : Meaning) (ss : List Record) (fill : ℕ) (o : Left) : Type 0 where
   pub taken : ℕ
   pub reads : Reads m0.events t rest
-  pub defers : m0.deferring ≡ true
   pub room : f ≤ length ss0
   pub filled : fill ≡ f + taken
-  pub short : fill ≤ length ss0
   pub source : m ≡ past taken m0
   pub comes : drop taken m0.events ≡ flat_l o rest
   pub sound : SoundL o
@@ -43,9 +41,9 @@ or_none : (a : Option Bar) → a ≡ or_else a None
 or_none None = refl
 or_none (Some b) = refl
 
-begun : (m0 : Meaning) (ss0 : List Record) (f text opened : ℕ) → m0.deferring ≡ true → f ≤ length ss0
+begun : (m0 : Meaning) (ss0 : List Record) (f text opened : ℕ) → f ≤ length ss0
     → Going m0 ss0 f text opened (read m0.events).0 (read m0.events).1 m0 ss0 f (start (read m0.events).0)
-begun m0 ss0 f text opened d h =
+begun m0 ss0 f text opened h =
     let l = limits_of ss0 f text opened m0 in
     let t = (read m0.events).0 in
     let r = read_reads m0.events in
@@ -53,10 +51,8 @@ begun m0 ss0 f text opened d h =
     record {
       taken = 0;
       reads = r;
-      defers = d;
       room = h;
       filled = omega arith;
-      short = h;
       source = refl;
       comes = r.is;
       sound = r.sound;
@@ -79,7 +75,7 @@ done_is (element ns o) h = absurd (true≢false (sym h))
 done_is (key ps o) h = absurd (true≢false (sym h))
 done_is (value v ps o) h = absurd (true≢false (sym h))
 
-module _ (m0 : Meaning) (ss0 : List Record) (f text opened : ℕ) (t : Node) (rest : List Record) (m : Meaning) (ss : List Record) (fill : ℕ) (o : Left) (g : Going m0 ss0 f text opened t rest m ss fill o) where
+module _ {m0 : Meaning} {ss0 : List Record} {f text opened : ℕ} {t : Node} {rest : List Record} {m : Meaning} {ss : List Record} {fill : ℕ} {o : Left} (g : Going m0 ss0 f text opened t rest m ss fill o) where
   abbrev L : Limits
   L = limits_of ss0 f text opened m0
 
@@ -122,20 +118,20 @@ pub record Loop (m0 : Meaning) (ss0 : List Record) (f text opened : ℕ) (m : Me
   pub spots : spots_of path ≡ spots_l left
   pub on : is_done path.spot ≡ false
 
-pub begin : (m0 : Meaning) (ss0 : List Record) (f text opened : ℕ) (path : Path) → m0.deferring ≡ true → f ≤ length ss0 → spots_of path ≡ Start ∷ [] → Loop m0 ss0 f text opened m0 ss0 f path
-begin m0 ss0 f text opened path d h p =
+pub begin : {m0 : Meaning} {ss0 : List Record} {f text opened : ℕ} (path : Path) → f ≤ length ss0 → spots_of path ≡ Start ∷ [] → Loop m0 ss0 f text opened m0 ss0 f path
+begin {m0} {ss0} {f} {text} {opened} path h p =
     let t = (read m0.events).0 in
     record {
       node = t;
       rest = (read m0.events).1;
       left = start t;
-      going = begun m0 ss0 f text opened d h;
+      going = begun m0 ss0 f text opened h;
       spots = p;
       on = ap is_done (at_spot path (start t) p);
     }
 
-module _ (m0 : Meaning) (ss0 : List Record) (f text opened : ℕ) (m : Meaning) (ss : List Record) (fill : ℕ) (path : Path) (h : Loop m0 ss0 f text opened m ss fill path) (same : length ss ≡ length ss0) where
-  module _ (deep : ℕ) (deeps : deep ≡ 64 - opened) (long : ℕ) (longs : long ≡ text) (level : ℕ) (levels : level ≡ array_vec_len path.around) where
+module _ {m0 : Meaning} {ss0 : List Record} {f text opened : ℕ} {m : Meaning} {ss : List Record} {fill : ℕ} {path : Path} (h : Loop m0 ss0 f text opened m ss fill path) (same : length ss ≡ length ss0) where
+  module _ {deep long level : ℕ} (deeps : deep ≡ 64 - opened) (longs : long ≡ text) (levels : level ≡ array_vec_len path.around) where
     abbrev low : Bool
     low = ltb level deep
 
@@ -157,19 +153,19 @@ module _ (m0 : Meaning) (ss0 : List Record) (f text opened : ℕ) (m : Meaning) 
         (ap₂ ltb h.going.filled same ∙ ltb_more f h.going.taken (length ss0) h.going.room)
         (ap₂ ltb (levels ∙ at_level path h.left h.spots) deeps ∙ sym (ltb_less (64 - opened) (level_l h.left)))
 
-    pub turn-refused : (e : Refusal) (m' : Meaning) (ss' : List Record) → RefusedOne path.spot long low m ss fill e m' ss' → Captures (limits_of ss0 f text opened m0) m0 ss0 f (Err e) m' ss' f
-    turn-refused e m' ss' (none_comes q p z) =
+    pub turn-refused : {e : Refusal} {m' : Meaning} {ss' : List Record} → RefusedOne path.spot long low m ss fill e m' ss' → Captures (limits_of ss0 f text opened m0) m0 ss0 f (Err e) m' ss' f
+    turn-refused {e} {m'} {ss'} (none_comes q p z) =
         let g = h.going in
         let (a, b, d) = no_event _ _ _ _ _ _ _ _ front-here m.close m.last e q in
         let why = b ∙ ap (λ es. ended_by m.close (last_in m.last es)) (sym a) ∙ ap closing_of g.source ∙ closing_past g.taken m0 in
-        refuses _ _ _ _ _ _ _ _ _ _ _ g (record { why = closing_of m0; taken = g.taken }) e m' ss' (g.bar ∙ d) why (p ∙ g.source) z
-    turn-refused e m' ss' (one_comes r why q x k p z) =
+        refuses g (record { why = closing_of m0; taken = g.taken }) e m' ss' (g.bar ∙ d) why (p ∙ g.source) z
+    turn-refused {e} {m'} {ss'} (one_comes r why q x k p z) =
         let g = h.going in
         let n : ℕ = cond (misplaced path.spot r.event) 1 0 in
         let b = refused_event _ _ _ _ _ _ _ _ front-here m.close m.last r why q (k ∙ same_asked r.event) in
-        refuses _ _ _ _ _ _ _ _ _ _ _ g (told path.spot g.taken why r) e m' ss' (g.bar ∙ b) x (p ∙ ap (past n) g.source ∙ past_more g.taken n m0) z
+        refuses g (told path.spot g.taken why r) e m' ss' (g.bar ∙ b) x (p ∙ ap (past n) g.source ∙ past_more g.taken n m0) z
 
-    module _ (e : Event) (m' : Meaning) (ss' : List Record) (f' : ℕ) (k : StoredOne path.spot long low m ss fill e m' ss' f') where
+    module _ {e : Event} {m' : Meaning} {ss' : List Record} {f' : ℕ} (k : StoredOne path.spot long low m ss fill e m' ss' f') where
       fine : Fine path.spot (ltb fill (length ss)) long low k.first.event
       fine = fine_from path.spot (ltb fill (length ss)) long low k.first.event k.fine
 
@@ -186,10 +182,8 @@ module _ (m0 : Meaning) (ss0 : List Record) (f text opened : ℕ) (m : Meaning) 
           let going : Going m0 ss0 f text opened h.node h.rest m' ss' f' nx.on = record {
             taken = n + 1;
             reads = g.reads;
-            defers = g.defers;
             room = g.room;
             filled = omega (arith, k.fill, g.filled);
-            short = omega (arith, k.fill, free);
             source = k.left ∙ ap (past 1) g.source ∙ past_more n 1 m0;
             comes = sym (drop-drop 1 n m0.events) ∙ ap (drop 1) comes;
             sound = nx.sound;
@@ -204,7 +198,7 @@ module _ (m0 : Meaning) (ss0 : List Record) (f text opened : ℕ) (m : Meaning) 
           } in
           (nx.on, going, nx.spots ∙ ap₂ (λ a b. follow (a ∷ around_l h.left) b) here (sym k.is) ∙ ap (λ x. follow x e) (sym h.spots))
 
-      module _ (path' : Path) (last : Bool) (ends : last ≡ is_done path'.spot) (steps : spots_of path' ≡ follow (spots_of path) e) where
+      module _ (path' : Path) {last : Bool} (ends : last ≡ is_done path'.spot) (steps : spots_of path' ≡ follow (spots_of path) e) where
         pub turn_on : last ≡ false → Loop m0 ss0 f text opened m' ss' f' path'
         turn_on b = let (o, g, p) = gone_on in record { node = h.node; rest = h.rest; left = o; going = g; spots = steps ∙ sym p; on = sym ends ∙ b }
 
@@ -212,7 +206,7 @@ module _ (m0 : Meaning) (ss0 : List Record) (f text opened : ℕ) (m : Meaning) 
         turn_last b =
             let (o, g, p) = gone_on in
             let d = done_is o (ap is_done (sym (at_spot path' o (steps ∙ sym p))) ∙ sym ends ∙ b) in
-            stores _ _ _ _ _ _ _ _ _ _ _ g d
+            stores g d
 
 -- with the deferral as it was
 by_restored : (m : Meaning) (ss : List Record) (f : ℕ) (t : Node) (o : Option Bar) (r : Result Captured Refusal) (m2 : Meaning) (ss' : List Record) (f' : ℕ) → By (deferred true m) ss f t o r m2 ss' f' → By m ss f t o r (deferred m.deferring m2) ss' f'
@@ -221,9 +215,9 @@ by_restored m ss f t None (Err e) m2 ss' f' k = k
 by_restored m ss f t (Some b) (Ok c) m2 ss' f' k = k
 by_restored m ss f t (Some b) (Err e) m2 ss' f' k = record { why = k.why; filled = k.filled; holds = k.holds; left = ap (deferred m.deferring) k.left }
 
-pub restored : (m m1 m2 m3 : Meaning) (old : Bool) (ss : List Record) (f text opened : ℕ) (r r' : Result Captured Refusal) (ss' ss'' : List Record) (f' f'' : ℕ) → Captures (limits_of ss f text opened m1) m1 ss f r m2 ss' f' → m1 ≡ deferred true m → old ≡ m.deferring
+pub restored : (m m2 : Meaning) (ss : List Record) (f text opened : ℕ) {m1 m3 : Meaning} {old : Bool} {r r' : Result Captured Refusal} {ss' ss'' : List Record} {f' f'' : ℕ} → Captures (limits_of ss f text opened m1) m1 ss f r m2 ss' f' → m1 ≡ deferred true m → old ≡ m.deferring
     → m3 ≡ deferred old m2 → r' ≡ r → ss'' ≡ ss' → f'' ≡ f' → Captures (limits_of ss f text opened m) m ss f r' m3 ss'' f''
-restored m m1 m2 m3 old ss f text opened r r' ss' ss'' f' f'' k e1 o e3 rs ses fs t rest h =
+restored m m2 ss f text opened {m1} {m3} {old} {r} {r'} {ss'} {ss''} {f'} {f''} k e1 o e3 rs ses fs t rest h =
     let k' = subst (λ x. Captures (limits_of ss f text opened x) x ss f r m2 ss' f') e1 k t rest h in
     let l = limits_of ss f text opened m in
     let b = by_restored m ss f t (barred l t) r m2 ss' f' k' in
