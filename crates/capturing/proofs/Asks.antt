@@ -1,6 +1,6 @@
 -- The questions for an event, and the bar of the first that is answered with no.
-use Rattle.std.proofs.Common.{◌≡◌, ℕ, ◌+◌, ◌-◌, ◌≤◌, Bool, true, false, cond, ltb, Some, None, Option, sym, refl, ap, ◌∙◌, ⊎_elim, arith}
-use Rattle.std.proofs.lemmas.Bool.{lt-ltb, le-ltb, cases_lt}
+use Rattle.std.proofs.Common.{◌≡◌, ℕ, ◌+◌, ◌-◌, ◌≤◌, Bool, true, false, cond, ltb, Some, None, Option, sym, refl, ap, arith}
+use Rattle.std.proofs.lemmas.Grind.{common_steps}
 use Rattle.records.specs.declared.refusal.Reason.{Reason}
 use Rattle.records.specs.declared.refusal.Reason.TheVariants.{UnexpectedContainerEnd, RackFull, PlaceOutsideRackText, TooDeep}
 use Rattle.records.specs.declared.record.Event.{Event}
@@ -12,10 +12,10 @@ use Rattle.capturing.specs.Paths.{misplaced, first_no, asked}
 
 -- tests of the same numbers
 pub ltb_less : (a b : ℕ) → ltb 0 (a - b) ≡ ltb b a
-ltb_less a b = ⊎_elim (λ h. lt-ltb 0 (a - b) (omega arith) ∙ sym (lt-ltb b a h)) (λ h. le-ltb 0 (a - b) (omega arith) ∙ sym (le-ltb b a h)) (cases_lt b a)
+ltb_less a b = grind (arith, common_steps)
 
 pub ltb_more : (f n k : ℕ) → f ≤ k → ltb (f + n) k ≡ ltb n (k - f)
-ltb_more f n k h = ⊎_elim (λ g. lt-ltb (f + n) k g ∙ sym (lt-ltb n (k - f) (omega arith))) (λ g. le-ltb (f + n) k g ∙ sym (le-ltb n (k - f) (omega arith))) (cases_lt (f + n) k)
+ltb_more f n k h = grind (arith, common_steps)
 
 -- an end that is out of place is refused as one, and of any other event the questions are asked
 module _ (s : Spot) (free : Bool) (n : ℕ) (low : Bool) (e : Event) where

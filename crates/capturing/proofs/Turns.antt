@@ -23,9 +23,9 @@ pub record Fine (s : Spot) (free : Bool) (n : ℕ) (low : Bool) (e : Event) : Ty
   pub all_yes : first_no free (placed n e) (cond (is_start e) low true) ≡ None
 
 fine_by : (out free lies low : Bool) → None ≡ cond out (Some UnexpectedContainerEnd) (first_no free lies low) → (out ≡ false) × (free ≡ true)
-fine_by true free lies low h = let z : ◌≡◌ {A = ℕ} 0 1 = cc in absurd (omega arith)
+fine_by true free lies low h = grind arith
 fine_by false true lies low h = (refl, refl)
-fine_by false false lies low h = let z : ◌≡◌ {A = ℕ} 0 1 = cc in absurd (omega arith)
+fine_by false false lies low h = grind arith
 
 pub fine_from : (s : Spot) (free : Bool) (n : ℕ) (low : Bool) (e : Event) → None ≡ asked s free n low e → Fine s free n low e
 fine_from s free n low e h =
@@ -54,7 +54,7 @@ module _ (l : Limits) (rest : List Record) (i : ℕ) (s : Spot) (ss : List Spot)
 
   -- the reading goes on with an event that is not refused
   pub next_event : {es : List Record} → Front l rest i s ss d bar n es → (c : Close) (k : Location) (r : Record) → Ok r ≡ first_in c k es → Asked None r → Next es r
-  next_event (at_end b) c k r q h = let z : ◌≡◌ {A = ℕ} 0 1 = cc in absurd (omega arith)
+  next_event (at_end b) c k r q h = grind arith
   next_event (at_stray x es p b) c k r q h =
       let e : x ≡ r = cc in
       let f = fine_from s (ltb i l.room) l.text (ltb 0 d) r.event h in
@@ -74,8 +74,8 @@ module _ (l : Limits) (rest : List Record) (i : ℕ) (s : Spot) (ss : List Spot)
   -- no event is left
   pub no_event : {es : List Record} → Front l rest i s ss d bar n es → (c : Close) (k : Location) (e : Refusal) → Err e ≡ first_in c k es → (es ≡ []) × (e ≡ ended_by c k) × (bar ≡ Some (record { why = l.closing; taken = i }))
   no_event (at_end b) c k e q = (refl, cc, b)
-  no_event (at_stray x es p b) c k e q = let z : ◌≡◌ {A = ℕ} 0 1 = cc in absurd (omega arith)
-  no_event (at_event x on p a b u v) c k e q = let z : ◌≡◌ {A = ℕ} 0 1 = cc in absurd (omega arith)
+  no_event (at_stray x es p b) c k e q = grind arith
+  no_event (at_event x on p a b u v) c k e q = grind arith
 
   stray_told : (why : Reason) (r : Record) (b : Bool) → b ≡ true → Some why ≡ cond b (Some UnexpectedContainerEnd) (first_no (ltb i l.room) (placed l.text r.event) (cond (is_start r.event) (ltb 0 d) true))
       → ◌≡◌ {A = Option Bar} (Some (bar_at UnexpectedContainerEnd (mark_of r) (i + 1))) (Some (record { why = refusal why r.location; taken = i + cond b 1 0 }))
@@ -91,7 +91,7 @@ module _ (l : Limits) (rest : List Record) (i : ℕ) (s : Spot) (ss : List Spot)
 
   -- an event is refused
   pub refused_event : {es : List Record} → Front l rest i s ss d bar n es → (c : Close) (k : Location) (r : Record) (why : Reason) → Ok r ≡ first_in c k es → Asked (Some why) r → bar ≡ Some (told s i why r)
-  refused_event (at_end b) c k r why q h = let z : ◌≡◌ {A = ℕ} 0 1 = cc in absurd (omega arith)
+  refused_event (at_end b) c k r why q h = grind arith
   refused_event (at_stray x es p b) c k r why q h =
       let e : x ≡ r = cc in
       b ∙ ap (λ y. Some (bar_at UnexpectedContainerEnd (mark_of y) (i + 1))) e ∙ stray_told why r (misplaced s r.event) (ap (λ y. misplaced s y.event) (sym e) ∙ p) h

@@ -1,4 +1,4 @@
-use Rattle.std.proofs.Common.{◌≡◌, ℕ, true, cond, ltb, length, Some, None, Option, sym, refl, ap, ◌∙◌, arith}
+use Rattle.std.proofs.Common.{◌≡◌, true, cond, ltb, length, Some, None, Option, sym, refl, ap, ◌∙◌, arith}
 use Rattle.std.specs.Option.{option_map}
 use Rattle.std.proofs.lemmas.Result.{err_from_is_err_and}
 use Rattle.records.specs.declared.refusal.Reason.TheVariants.{UnexpectedContainerEnd}
@@ -12,7 +12,7 @@ use Rattle.capturing.proofs.storing.store_event.Goals as goal
 
 -- what a value was made of
 made_of : {A B : Type 0} (f : A → B) (o : Option A) (b : B) → Some b ≡ option_map f o → (a : A) × (Some a ≡ o) × (b ≡ f a)
-made_of f None b h = let n : ◌≡◌ {A = ℕ} 0 1 = cc in absurd (omega arith)
+made_of f None b h = grind arith
 made_of f (Some a) b h = (a, refl, cc)
 
 pub returns-then-is_misplaced-clause-one : goal.returns-then-is_misplaced-clause-one
