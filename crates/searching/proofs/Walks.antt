@@ -1,6 +1,6 @@
 -- Slots and the nodes in them, and how the count of open containers runs over a node.
-use Rattle.std.proofs.Common.{◌≡◌, ℕ, zero, suc, ◌+◌, ◌-◌, ◌<◌, ◌≤◌, true, List, [], ◌∷◌, length, get_or, drop, sym, refl, ap, ◌∙◌, add-zero, arith, get_or-drop, drop-drop}
-use Rattle.std.proofs.lemmas.List.{drop_more, length-drop}
+use Rattle.std.proofs.Common.{◌≡◌, ℕ, zero, suc, ◌+◌, ◌-◌, ◌<◌, ◌≤◌, true, List, [], ◌∷◌, length, get_or, drop, refl, ap, arith}
+use Rattle.std.proofs.lemmas.List.{at_drop_more, length-drop}
 use Rattle.std.proofs.lemmas.Bool.{false≢true, and_parts}
 use Rattle.records.specs.declared.record.Record.{Record}
 use Rattle.records.specs.Blank.{blank}
@@ -8,20 +8,10 @@ use Rattle.nodes.specs.Tree.{Node, Nodes, Pairs, flat, flats, flatp, size, sizes
 use Rattle.nodes.specs.Tree.Node.{scalar, alias, seq, dict, cut}
 use Rattle.nodes.specs.Tree.Nodes.{none, more}
 use Rattle.nodes.specs.Tree.Pairs.{done, pair}
-use Rattle.nodes.proofs.Flats.{drop_flat, size_flat, size_some}
+use Rattle.nodes.proofs.Flats.{size_flat, size_some}
 use Rattle.nodes.specs.Reading.{opens}
 
--- what a slot holds, and what stands behind it
-pub here : (s : List Record) (i : ℕ) (x : Record) (r : List Record) → drop i s ≡ x ∷ r → get_or s i blank ≡ x
-here s i x r e = ap (λ n. get_or s n blank) (sym (add-zero i)) ∙ sym (get_or-drop i s 0 blank) ∙ ap (λ l. get_or l 0 blank) e
-
-pub past : (s : List Record) (i : ℕ) (x : Record) (r : List Record) → drop i s ≡ x ∷ r → drop (i + 1) s ≡ r
-past s i x r e = sym (drop-drop 1 i s) ∙ ap (drop 1) e
-
--- what stands behind a node, which ends in the slots
-pub behind : (s : List Record) (i : ℕ) (t : Node) (r : List Record) → whole t ≡ true → drop i s ≡ flat t r → drop (i + size t) s ≡ r
-behind s i t r w e = sym (drop-drop (size t) i s) ∙ ap (drop (size t)) e ∙ drop_flat t r w
-
+-- a node ends in the slots
 pub ends_within : (s : List Record) (i : ℕ) (t : Node) (r : List Record) → whole t ≡ true → drop i s ≡ flat t r → (0 < size t) × (i + size t ≤ length s)
 ends_within s i t r w e =
     let l = ap length e in
@@ -63,32 +53,16 @@ mutual
       let (b, c) = and_parts (whole v) (wholep ps) w' in
       omega (arith, run_flat k d (flat v (flatp ps r)) a, run_flat v d (flatp ps r) b, run_flatp ps d r c)
 
-run_node : (t : Node) (r : List Record) → whole t ≡ true → run 0 (flat t r) ≡ size t
+pub run_node : (t : Node) (r : List Record) → whole t ≡ true → run 0 (flat t r) ≡ size t
 run_node (scalar k x) r w = refl
 run_node (alias k a) r w = refl
 run_node (seq k h ns) r w = omega (arith, run_flats ns 0 r w)
 run_node (dict k h ps) r w = omega (arith, run_flatp ps 0 r w)
 run_node (cut c) r w = absurd (false≢true w)
 
-pub run_at : (s : List Record) (i : ℕ) (t : Node) (r : List Record) → whole t ≡ true → drop i s ≡ flat t r → run 0 (drop i s) ≡ size t
-run_at s i t r w e = ap (run 0) e ∙ run_node t r w
-
--- one turn of the count
-turn : (s : List Record) (i d : ℕ) → i < length s → run d (drop i s) ≡ suc (further (opens d (get_or s i blank).event) (run (opens d (get_or s i blank).event) (drop (i + 1) s)))
-turn s i d h = ap (run d) (drop_more s i blank h)
-
-further_on : (d n : ℕ) → 0 < d → further d n ≡ n
-further_on zero n h = absurd (omega arith)
-further_on (suc d) n h = refl
-
-pub turned : (s : List Record) (i d d' m : ℕ) → i < length s → d' ≡ opens d (get_or s i blank).event → i + run d (drop i s) ≡ m → 0 < d' → i + 1 + run d' (drop (i + 1) s) ≡ m
-turned s i d d' m h z k p =
-    let u = turn s i d h in
-    let v : further (opens d (get_or s i blank).event) (run (opens d (get_or s i blank).event) (drop (i + 1) s)) ≡ run d' (drop (i + 1) s) = ap (λ x. further x (run x (drop (i + 1) s))) (sym z) ∙ further_on d' _ p in
-    omega arith
-
+-- where the count comes to nothing it stops
 pub stopped : (s : List Record) (i d m : ℕ) → i < length s → opens d (get_or s i blank).event ≡ 0 → i + run d (drop i s) ≡ m → i + 1 ≡ m
 stopped s i d m h z k =
-    let u = turn s i d h in
-    let v : further (opens d (get_or s i blank).event) (run (opens d (get_or s i blank).event) (drop (i + 1) s)) ≡ 0 = ap (λ x. further x (run x (drop (i + 1) s))) z in
+    let u = at_drop_more (run d) s i blank h in
+    let v = ap (λ x. further x (run x (drop (i + 1) s))) z in
     omega arith

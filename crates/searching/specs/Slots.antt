@@ -1,12 +1,14 @@
 -- What walking over slots goes by: how far it comes, what is a merge key, and what a search answers.
 use Rattle.std.specs.Prelude.{◌≡◌, ℕ, ◌+◌, ◌-◌, ◌≤◌, Bool, true, false, List, [], length, drop, Some, None as Nothing, Ok, Err, Option, Result}
+use Rattle.std.specs.Borrow.{Bor}
 use Rattle.std.specs.List.{AllByRecursion}
+use Rattle.std.specs.Result.{MatchResult}
 use Rattle.records.specs.declared.location.Location.{Location}
 use Rattle.records.specs.declared.record.Record.{Record}
 use Rattle.records.specs.Places.{placed}
 use Rattle.events.specs.View.{View}
 use Rattle.fingerprints.specs.Views.{merge_key}
-use Rattle.nodes.specs.Tree.{Node, Nodes, Pairs, Inside, flat, flats, flatp, size, sizes, sizep, whole, wholes, wholep}
+use Rattle.nodes.specs.Tree.{Node, Nodes, Pairs, Inside, flat, flats, flatp, size, whole, wholes, wholep}
 use Rattle.nodes.specs.Fields.{merge_in, merge_ins, merge_inp}
 
 -- from n on fewer slots are left than from `at` on, or none
@@ -28,12 +30,21 @@ sought n Nothing = Ok n
 sought n (Some l) = Err l
 
 -- Wherever a whole node begins at slot i, with its places inside the text, the answer is where its first merge key
--- stands, or the slot behind it; and likewise for the elements of a sequence and the pairs of a mapping, up to its end.
+-- stands, or the slot behind it.
 abbrev pub Visited : List ℕ → List Record → ℕ → Result ℕ Location → Type 0
 Visited text slots i o = (t : Node) (rest : List Record) → whole t ≡ true → Inside (length text) t → drop i slots ≡ flat t rest → o ≡ sought (i + size t) (merge_in text t)
 
-abbrev pub VisitedElements : List ℕ → List Record → ℕ → Result ℕ Location → Type 0
-VisitedElements text slots i o = (ns : Nodes) (rest : List Record) → wholes ns ≡ true → Placed (length text) (flats ns []) → drop i slots ≡ flats ns rest → o ≡ sought (i + sizes ns) (merge_ins text ns)
+-- the answer of a search by the slots that are left: where the first merge key stands, or `rest` where there is none
+abbrev pub Answers : Option Location → List Record → Result (Bor (List Record)) Location → Type 0
+Answers first rest o = MatchResult o (λ left. (left.now ≡ rest) × (first ≡ Nothing)) (λ l. first ≡ Some l)
 
-abbrev pub VisitedPairs : List ℕ → List Record → ℕ → Result ℕ Location → Type 0
-VisitedPairs text slots i o = (ps : Pairs) (rest : List Record) → wholep ps ≡ true → Placed (length text) (flatp ps []) → drop i slots ≡ flatp ps rest → o ≡ sought (i + sizep ps) (merge_inp text ps)
+-- Wherever the slots are a whole node, with its places inside the text, and what is left behind it, the answer is right;
+-- and likewise for the elements of a sequence and the pairs of a mapping, up to its end.
+abbrev pub PastNode : List ℕ → List Record → Result (Bor (List Record)) Location → Type 0
+PastNode text slots o = (t : Node) (rest : List Record) → whole t ≡ true → Inside (length text) t → slots ≡ flat t rest → Answers (merge_in text t) rest o
+
+abbrev pub PastElements : List ℕ → List Record → Result (Bor (List Record)) Location → Type 0
+PastElements text slots o = (ns : Nodes) (rest : List Record) → wholes ns ≡ true → Placed (length text) (flats ns []) → slots ≡ flats ns rest → Answers (merge_ins text ns) rest o
+
+abbrev pub PastPairs : List ℕ → List Record → Result (Bor (List Record)) Location → Type 0
+PastPairs text slots o = (ps : Pairs) (rest : List Record) → wholep ps ≡ true → Placed (length text) (flatp ps []) → slots ≡ flatp ps rest → Answers (merge_inp text ps) rest o

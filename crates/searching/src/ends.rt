@@ -4,6 +4,7 @@ ghost use Rattle.nodes.specs.Tree.{Node, flat, size, whole};
 ghost use Rattle.nodes.specs.Reading.{opens};
 ghost use Rattle.searching.specs.Slots.{Onward};
 
+use crate::slots::slots_from;
 use records::record::{Event, Record};
 
 // How many containers are open behind the event, of `depth` before it.
@@ -23,13 +24,12 @@ pub fn node_end(slots: &[Record], at: usize) -> usize
     ensures onward { Onward slots.now at result }
     ensures node { (t : Node) (rest : List Record) → whole t ≡ true → drop at slots.now ≡ flat t rest → result ≡ at + size t }
 {
+    let held = slots_from(slots, at);
     let mut depth: usize = 0;
-    let mut i = at;
-    while i < slots.len() {
-        depth = depth_after(slots[i].event, depth);
-        i += 1;
+    for (i, record) in held.iter().enumerate() {
+        depth = depth_after(record.event, depth);
         if depth == 0 {
-            return i;
+            return at + i + 1;
         }
     }
     slots.len()

@@ -3,4 +3,5 @@
 
 pub mod ends;
 pub mod merges;
+mod slots;
 pub mod visits;

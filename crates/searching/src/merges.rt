@@ -11,8 +11,5 @@ use records::record::Record;
 pub fn is_merge_key_at(text: &[u8], record: Record) -> bool
     ensures { result ≡ merge_seen (seen text.now «record») }
 {
-    match Ev::of(record, text) {
-        Some(ev) => is_merge_key_event(ev),
-        None => false,
-    }
+    Ev::of(record, text).is_some_and(is_merge_key_event)
 }

@@ -1,63 +1,75 @@
 // The search for merge keys inside a node.
-ghost use Rattle.std.specs.Prelude.{IfOk};
-ghost use Rattle.searching.specs.Slots.{Onward, Visited, VisitedElements, VisitedPairs};
+ghost use Rattle.std.specs.Prelude.{◌≤◌, ◌-◌, length, IfOk};
+ghost use Rattle.searching.specs.Slots.{Onward, Visited, PastNode, PastElements, PastPairs};
 
 use crate::merges::is_merge_key_at;
+use crate::slots::slots_from;
 use records::location::Location;
 use records::record::{Event, Record};
 
-// The slot behind the elements from `at` on and the end of their sequence, or where the first merge key inside them is.
-#[cycle(visit_elements_visit_node_visit_pairs)]
-fn visit_elements(text: &[u8], slots: &[Record], at: usize) -> Result<usize, Location>
-    ensures onward { IfOk result (λ n. Onward slots.now at n) }
-    ensures found { VisitedElements text.now slots.now at result }
+// By a rule of the project the search recurses over held events, and fewer slots are left for each call inward.
+// The text stays while the slots that are left change at each step: a struct of both would be made anew each time.
+
+// What is left behind the elements and the end of their sequence, or where the first merge key inside them is.
+#[cycle(past_node)]
+fn past_elements<'s>(text: &[u8], slots: &'s [Record]) -> Result<&'s [Record], Location>
+    ensures fewer { IfOk result (λ left. length left.now ≤ length slots.now) }
+    ensures found { PastElements text.now slots.now result }
 {
-    let mut i = at;
-    while i < slots.len() {
-        if let Event::SeqEnd = slots[i].event {
-            return Ok(i + 1);
+    let mut left = slots;
+    while let Some((first, rest)) = left.split_first() {
+        if let Event::SeqEnd = first.event {
+            return Ok(rest);
         }
-        i = visit_node(text, slots, i)?;
+        left = past_node(text, left)?;
     }
-    Ok(slots.len())
+    Ok(left)
 }
 
-// The slot behind the pairs from `at` on and the end of their mapping, or where the first merge key of them or inside
-// them is.
-#[cycle(visit_elements_visit_node_visit_pairs)]
-fn visit_pairs(text: &[u8], slots: &[Record], at: usize) -> Result<usize, Location>
-    ensures onward { IfOk result (λ n. Onward slots.now at n) }
-    ensures found { VisitedPairs text.now slots.now at result }
+// What is left behind the pairs and the end of their mapping, or where the first merge key of them or inside them is.
+#[cycle(past_node)]
+fn past_pairs<'s>(text: &[u8], slots: &'s [Record]) -> Result<&'s [Record], Location>
+    ensures fewer { IfOk result (λ left. length left.now ≤ length slots.now) }
+    ensures found { PastPairs text.now slots.now result }
 {
-    let mut i = at;
-    while i < slots.len() {
-        let record = slots[i];
-        if let Event::MapEnd = record.event {
-            return Ok(i + 1);
+    let mut left = slots;
+    while let Some((first, rest)) = left.split_first() {
+        if let Event::MapEnd = first.event {
+            return Ok(rest);
         }
-        if is_merge_key_at(text, record) {
-            return Err(record.location);
+        if is_merge_key_at(text, *first) {
+            return Err(first.location);
         }
-        let value = visit_node(text, slots, i)?;
-        i = visit_node(text, slots, value)?;
+        let value = past_node(text, left)?;
+        left = past_node(text, value)?;
     }
-    Ok(slots.len())
+    Ok(left)
+}
+
+// What is left behind the node that begins with the first slot, or where the first merge key inside it stands; nothing,
+// where no node begins.
+#[cycle(past_node)]
+fn past_node<'s>(text: &[u8], slots: &'s [Record]) -> Result<&'s [Record], Location>
+    ensures fewer { IfOk result (λ left. length left.now ≤ length slots.now - 1) }
+    ensures found { PastNode text.now slots.now result }
+{
+    let Some((first, rest)) = slots.split_first() else {
+        return Ok(slots);
+    };
+    match first.event {
+        Event::Scalar { .. } | Event::RecursiveAlias { .. } => Ok(rest),
+        Event::SeqStart { .. } => past_elements(text, rest),
+        Event::MapStart { .. } => past_pairs(text, rest),
+        Event::SeqEnd | Event::MapEnd => Ok(&[]),
+    }
 }
 
 /// The slot behind the node that begins at `at`, or where the first merge key inside it stands; the end, where no node
 /// begins.
-#[cycle(visit_elements_visit_node_visit_pairs)]
 pub fn visit_node(text: &[u8], slots: &[Record], at: usize) -> Result<usize, Location>
     ensures onward { IfOk result (λ n. Onward slots.now at n) }
     ensures found { Visited text.now slots.now at result }
 {
-    if at >= slots.len() {
-        return Ok(slots.len());
-    }
-    match slots[at].event {
-        Event::Scalar { .. } | Event::RecursiveAlias { .. } => Ok(at + 1),
-        Event::SeqStart { .. } => visit_elements(text, slots, at + 1),
-        Event::MapStart { .. } => visit_pairs(text, slots, at + 1),
-        Event::SeqEnd | Event::MapEnd => Ok(slots.len()),
-    }
+    let left = past_node(text, slots_from(slots, at))?;
+    Ok(slots.len() - left.len())
 }
