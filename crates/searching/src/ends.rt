@@ -9,8 +9,9 @@ use records::record::{Event, Record};
 
 // How many containers are open behind the event, of `depth` before it.
 fn depth_after(event: Event, depth: usize) -> usize
-    requires { depth < 18446744073709551615 }
-    ensures { (result ≡ opens depth event) × (result ≤ depth + 1) }
+    requires { depth < usize.MAX }
+    ensures opened { result ≡ opens depth event }
+    ensures at_most_one_more { result ≤ depth + 1 }
 {
     match event {
         Event::SeqStart { .. } | Event::MapStart { .. } => depth + 1,

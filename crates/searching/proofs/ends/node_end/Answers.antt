@@ -7,7 +7,7 @@ use Rattle.searching.proofs.ends.node_end.Goals as goal
 pub returns-then-depth-eq0-clause-node : goal.returns-then-depth-eq0-clause-node
 returns-then-depth-eq0-clause-node c t rest w e =
     let k = ap (run 0) (c.slots_from-held.ensures ∙ e) ∙ run_node t rest w in
-    let h = stopped _ _ _ _ c.loop-i-test.true (sym c.depth_after-depth.ensures.0 ∙ c.if-depth-eq0.true) (c.loop-i.invariant.same_end) in
+    let h = stopped _ _ _ _ c.loop-i-test.true (sym c.depth_after-depth.ensures.opened ∙ c.if-depth-eq0.true) (c.loop-i.invariant.same_end) in
     omega arith
 
 pub returns-clause-node : goal.returns-clause-node
