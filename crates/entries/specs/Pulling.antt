@@ -1,5 +1,5 @@
 -- What functions answer and leave that take parts of a mapping off a source, and put them behind the filled slots.
-use Rattle.std.specs.Prelude.{◌≡◌, ℕ, ◌+◌, List, ◌++◌, take, Ok, Err, Result}
+use Rattle.std.specs.Prelude.{◌≡◌, ℕ, ◌+◌, List, ◌++◌, take, Result}
 use Rattle.records.specs.declared.record.Record.{Record}
 use Rattle.records.specs.declared.refusal.Refusal.{Refusal}
 use Rattle.events.specs.Meaning.{Meaning}
@@ -8,7 +8,7 @@ use Rattle.nodes.specs.Fields.{Item}
 use Rattle.nodes.specs.Collect.{Stop}
 use Rattle.nodes.specs.Leaving.{left_by}
 use Rattle.entries.specs.declared.entry.PendingEntry.{PendingEntry}
-use Rattle.entries.specs.Tables.{Brought}
+use Rattle.entries.specs.Tables.{Agrees, Brought}
 
 -- n events are taken, and stand as `es` behind the slots that were filled
 pub record Took (m : Meaning) (slots : List Record) (fill n : ℕ) (es : List Record) (m' : Meaning) (slots' : List Record) (fill' : ℕ) : Type 0 where
@@ -29,7 +29,4 @@ pub record Collects (m : Meaning) (slots : List Record) (fill n : ℕ) (es : Lis
 
 -- by what the definition says
 abbrev pub Pulls : Meaning → List Record → ℕ → ℕ → List Record → List PendingEntry → ℕ → Result (List Item) Stop → Result ℕ Refusal → Meaning → List Record → ℕ → List PendingEntry → Type 0
-Pulls m slots fill n es old from (Ok xs) (Ok c) m' slots' fill' new = Collects m slots fill n es old from xs c m' slots' fill' new
-Pulls m slots fill n es old from (Ok xs) (Err e) m' slots' fill' new = ⊥
-Pulls m slots fill n es old from (Err s) (Ok c) m' slots' fill' new = ⊥
-Pulls m slots fill n es old from (Err s) (Err e) m' slots' fill' new = StoppedBy m slots fill s e m' slots'
+Pulls m slots fill n es old from wanted answer m' slots' fill' new = Agrees (λ xs c. Collects m slots fill n es old from xs c m' slots' fill' new) (λ s e. StoppedBy m slots fill s e m' slots') wanted answer

@@ -2,15 +2,12 @@
 ghost use Rattle.entries.specs.Playing.{EntriesPlayOne, EntriesStay};
 
 /// An entry plays one field at most.
-pub fn entries_play_one_field() -> u8
+pub fn entries_play_one_field()
     ensures { EntriesPlayOne }
-{
-    0
-}
+{}
 
 /// An entry plays the same field when more slots are filled.
-pub fn entries_stay() -> u8
+#[tactic(auto, using(crate::proofs::Plays::entries_stay))]
+pub fn entries_stay()
     ensures { EntriesStay }
-{
-    0
-}
+{}

@@ -3,7 +3,7 @@ use records::location::Location;
 use records::options::{DuplicateKeyPolicy, MergeKeyPolicy};
 
 /// How repeated keys and merge keys are treated.
-#[derive(Clone, Copy)]
+#[derive(Clone, Copy, PartialEq, Eq, Debug)]
 pub struct Policies {
     pub repeats: DuplicateKeyPolicy,
     pub merges: MergeKeyPolicy,
@@ -18,7 +18,7 @@ pub struct Rules<'r> {
 }
 
 /// What a collection refers to: of a mapping itself a reference of its own, in an expansion the merge value's.
-#[derive(Clone, Copy)]
+#[derive(Clone, Copy, PartialEq, Eq, Debug)]
 pub enum Basis {
     Direct(Location),
     Expansion(Location),

@@ -1,23 +1,24 @@
 // Working memory, lent beside a rack and beside a table of entries. What it holds means nothing from call to call.
 use crate::entry::{Key, PendingEntry};
 
-/// What is noted of the node that begins at a slot while nodes are compared: how many slots it has, 0 where none begins,
-/// and its class, a number that it shares with the nodes that are alike.
-#[derive(Clone, Copy)]
+/// What is noted of the node that begins at a slot while nodes are compared: how many slots it has, and its class, a
+/// number that it shares with the nodes that are alike.
+#[derive(Clone, Copy, PartialEq, Eq, Debug)]
 pub struct Class {
     pub len: u32,
     pub class: u32,
 }
 
-/// Working memory of a rack: a class for each slot, and the pairs of classes of one mapping.
+/// Working memory of a rack: for each slot the class of the node that begins there, if one does, and the pairs of classes
+/// of one mapping.
 #[derive(Drop)]
 pub struct CompareWork<'w> {
-    pub classes: &'w mut [Class],
+    pub classes: &'w mut [Option<Class>],
     pub pairs: &'w mut [(u32, u32)],
 }
 
 /// A key that a filter has seen: a scalar or an alias by its slot, another node by the number of the first key alike.
-#[derive(Clone, Copy)]
+#[derive(Clone, Copy, PartialEq, Eq, Debug)]
 pub enum SeenKey {
     Leaf(Key),
     Node(usize),
