@@ -9,8 +9,8 @@ pub struct Class {
     pub class: u32,
 }
 
-/// Working memory of a rack: for each slot the class of the node that begins there, if one does, and the pairs of classes
-/// of one mapping.
+/// Working memory of a rack: for each slot the class of the node that begins there, if one does, and the pairs of
+/// classes of one mapping.
 #[derive(Drop)]
 pub struct CompareWork<'w> {
     pub classes: &'w mut [Option<Class>],

@@ -8,7 +8,7 @@ use Rattle.records.specs.declared.record.Record.{Record}
 use Rattle.records.specs.Places.{placed}
 use Rattle.events.specs.View.{View}
 use Rattle.fingerprints.specs.Views.{merge_key}
-use Rattle.nodes.specs.Tree.{Node, Nodes, Pairs, Inside, flat, flats, flatp, size, whole, wholes, wholep}
+use Rattle.nodes.specs.Tree.{Node, Inside, flat, flats, flatp, size, whole, wholes, wholep}
 use Rattle.nodes.specs.Fields.{merge_in, merge_ins, merge_inp}
 
 -- from n on fewer slots are left than from `at` on, or none
@@ -38,13 +38,16 @@ Visited text slots i o = (t : Node) (rest : List Record) → whole t ≡ true �
 abbrev pub Answers : Option Location → List Record → Result (Bor (List Record)) Location → Type 0
 Answers first rest o = MatchResult o (λ left. (left.now ≡ rest) × (first ≡ Nothing)) (λ l. first ≡ Some l)
 
--- Wherever the slots are a whole node, with its places inside the text, and what is left behind it, the answer is right;
--- and likewise for the elements of a sequence and the pairs of a mapping, up to its end.
+-- Wherever the slots are a whole tree of one kind, with its places inside a text of n bytes, and what is left behind it,
+-- the answer is right: for a node, the elements of a sequence up to its end, and the pairs of a mapping up to its end.
+abbrev pub Past : {T : Type 0} → (T → Bool) → (T → List Record → List Record) → (T → Option Location) → ℕ → List Record → Result (Bor (List Record)) Location → Type 0
+Past {T} unbroken written first n slots o = (t : T) (rest : List Record) → unbroken t ≡ true → Placed n (written t []) → slots ≡ written t rest → Answers (first t) rest o
+
 abbrev pub PastNode : List ℕ → List Record → Result (Bor (List Record)) Location → Type 0
-PastNode text slots o = (t : Node) (rest : List Record) → whole t ≡ true → Inside (length text) t → slots ≡ flat t rest → Answers (merge_in text t) rest o
+PastNode text slots o = Past whole flat (merge_in text) (length text) slots o
 
 abbrev pub PastElements : List ℕ → List Record → Result (Bor (List Record)) Location → Type 0
-PastElements text slots o = (ns : Nodes) (rest : List Record) → wholes ns ≡ true → Placed (length text) (flats ns []) → slots ≡ flats ns rest → Answers (merge_ins text ns) rest o
+PastElements text slots o = Past wholes flats (merge_ins text) (length text) slots o
 
 abbrev pub PastPairs : List ℕ → List Record → Result (Bor (List Record)) Location → Type 0
-PastPairs text slots o = (ps : Pairs) (rest : List Record) → wholep ps ≡ true → Placed (length text) (flatp ps []) → slots ≡ flatp ps rest → Answers (merge_inp text ps) rest o
+PastPairs text slots o = Past wholep flatp (merge_inp text) (length text) slots o
