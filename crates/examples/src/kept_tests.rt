@@ -1,6 +1,6 @@
 // Kept lists of numbers and of pairs, by example.
 use kept::equality::Equality;
-use kept::instances::{ByNumber, ByParts};
+use kept::instances::ByEq;
 use kept::list::Kept;
 use kept::pairing::pair_off;
 
@@ -21,43 +21,43 @@ fn a_push_is_refused_when_full(rt: HostRuntime) {
     assert!(rt; kept.push(7).is_ok());
     assert!(rt; kept.push(8).is_ok());
     assert!(rt; kept.push(9).is_err());
-    assert_eq!(rt; kept.find(&ByNumber, &9), None);
+    assert_eq!(rt; kept.find(&ByEq, &9), None);
 }
 
 #[test]
 fn the_first_of_several_is_found(rt: HostRuntime) {
     let mut places = [(0u32, 0u32); 3];
     let kept = kept_of(&mut places, &[(1, 2), (3, 4), (3, 4)]);
-    assert_eq!(rt; kept.find(&ByParts, &(3, 4)), Some(1));
-    assert_eq!(rt; kept.find(&ByParts, &(3, 2)), None);
+    assert_eq!(rt; kept.find(&ByEq, &(3, 4)), Some(1));
+    assert_eq!(rt; kept.find(&ByEq, &(3, 2)), None);
 }
 
 #[test]
 fn taking_off_keeps_the_order(rt: HostRuntime) {
     let mut places = [0u32; 4];
     let mut kept = kept_of(&mut places, &[5, 6, 7, 6]);
-    assert!(rt; kept.take_off(&ByNumber, &6));
-    assert_eq!(rt; kept.find(&ByNumber, &7), Some(1));
-    assert_eq!(rt; kept.find(&ByNumber, &6), Some(2));
+    assert!(rt; kept.take_off(&ByEq, &6));
+    assert_eq!(rt; kept.find(&ByEq, &7), Some(1));
+    assert_eq!(rt; kept.find(&ByEq, &6), Some(2));
 }
 
 #[test]
 fn taking_an_absent_one_off_changes_nothing(rt: HostRuntime) {
     let mut places = [0u32; 2];
     let mut kept = kept_of(&mut places, &[5]);
-    assert!(rt; !kept.take_off(&ByNumber, &6));
+    assert!(rt; !kept.take_off(&ByEq, &6));
     assert_eq!(rt; kept.len(), 1);
-    assert_eq!(rt; kept.find(&ByNumber, &5), Some(0));
+    assert_eq!(rt; kept.find(&ByEq, &5), Some(0));
 }
 
 // Whether lists of numbers pair off, with room for three.
 fn numbers_pair_off(xs: &[u32], ys: &[u32]) -> Option<bool> {
-    pair_off(&ByNumber, xs, ys, &mut [0; 3])
+    pair_off(&ByEq, xs, ys, &mut [0; 3])
 }
 
 // Whether lists of pairs pair off, with room for two.
 fn pairs_pair_off(xs: &[(u32, u32)], ys: &[(u32, u32)]) -> Option<bool> {
-    pair_off(&ByParts, xs, ys, &mut [(0, 0); 2])
+    pair_off(&ByEq, xs, ys, &mut [(0, 0); 2])
 }
 
 #[test]

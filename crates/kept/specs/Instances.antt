@@ -1,7 +1,7 @@
--- Equality of plain values, and that it is an equivalence.
-use Rattle.std.specs.Prelude.{◌≡◌, ℕ, Bool, true, ◌&&◌, ◌==◌, refl}
-use Rattle.std.proofs.Common.{sym, ◌∙◌}
-use Rattle.std.proofs.lemmas.Bool.{eqb-true, eq-eqb, and_parts, and_from}
+-- Equality by `==`, and of plain values, and that it is an equivalence.
+use Rattle.std.specs.Prelude.{◌≡◌, ℕ, Bool, true, ◌&&◌, ◌==◌}
+use Rattle.std.specs.Cmp.{IsEquivalence, nat_eq_equiv, on_equiv, and_equiv}
+use Rattle.std.proofs.Common.{◌∙◌}
 use Rattle.kept.specs.Equivalence.{Equivalence}
 
 abbrev pub same_number : ℕ → ℕ → Bool
@@ -10,29 +10,17 @@ same_number a b = a == b
 abbrev pub same_parts : ℕ × ℕ → ℕ × ℕ → Bool
 same_parts a b = a.0 == b.0 && a.1 == b.1
 
-eqb_sym : (a b : ℕ) → (a == b) ≡ true → (b == a) ≡ true
-eqb_sym a b p = eq-eqb b a (sym (eqb-true a b p))
-
-eqb_trans : (a b c : ℕ) → (a == b) ≡ true → (b == c) ≡ true → (a == c) ≡ true
-eqb_trans a b c p q = eq-eqb a c (eqb-true a b p ∙ eqb-true b c q)
+-- what the laws of `Eq` say, in the words of a kept list
+pub by_laws : {S T : Type 0} {same : T → T → Bool} → IsEquivalence same → Equivalence {S = S} {T = T} (λ _. same)
+by_laws laws =
+    record {
+      reflexive = λ e a. laws.refl a;
+      symmetric = λ e a b p. laws.symm b a ∙ p;
+      transitive = λ e a b c p q. laws.congr a b c p ∙ q;
+    }
 
 pub number_lawful : {S : Type 0} → Equivalence {S = S} {T = ℕ} (λ _. same_number)
-number_lawful =
-    record {
-      reflexive = λ e a. eq-eqb a a refl;
-      symmetric = λ e a b p. eqb_sym a b p;
-      transitive = λ e a b c p q. eqb_trans a b c p q;
-    }
+number_lawful = by_laws nat_eq_equiv
 
 pub parts_lawful : {S : Type 0} → Equivalence {S = S} {T = ℕ × ℕ} (λ _. same_parts)
-parts_lawful =
-    record {
-      reflexive = λ e a. and_from _ _ (eq-eqb a.0 a.0 refl) (eq-eqb a.1 a.1 refl);
-      symmetric = λ e a b p.
-          let h = and_parts (a.0 == b.0) (a.1 == b.1) p in
-          and_from _ _ (eqb_sym a.0 b.0 h.0) (eqb_sym a.1 b.1 h.1);
-      transitive = λ e a b c p q.
-          let h = and_parts (a.0 == b.0) (a.1 == b.1) p in
-          let k = and_parts (b.0 == c.0) (b.1 == c.1) q in
-          and_from _ _ (eqb_trans a.0 b.0 c.0 h.0 k.0) (eqb_trans a.1 b.1 c.1 h.1 k.1);
-    }
+parts_lawful = by_laws (and_equiv (on_equiv (λ a. a.0) nat_eq_equiv) (on_equiv (λ a. a.1) nat_eq_equiv))

@@ -6,9 +6,9 @@ ghost use Rattle.kept.specs.Equivalence.{Equivalence};
 pub trait Equality<T> {
     ghost same: { Self → T → T → Bool };
 
-    ghost lawful: { Equivalence same };
-
     /// Whether the two are equal.
     fn equal(&self, a: &T, b: &T) -> bool
         ensures { result ≡ same self.now a.now b.now };
+
+    ghost lawful: { Equivalence same };
 }

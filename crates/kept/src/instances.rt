@@ -1,32 +1,26 @@
-// Equalities of plain values.
-ghost use Rattle.kept.specs.Instances.{same_number, same_parts, number_lawful, parts_lawful};
+// The equality of every type that has `==`.
+ghost use Rattle.std.specs.Prelude.{◌≡◌, ℕ};
+ghost use Rattle.kept.specs.Instances.{same_number, same_parts, by_laws};
 
 use crate::equality::Equality;
 
-/// Numbers, equal where they are the same number.
-#[derive(Clone, Copy)]
-pub struct ByNumber;
+/// Elements are equal where `==` says so.
+#[derive(Clone, Copy, PartialEq, Eq, Debug)]
+pub struct ByEq;
 
-impl Equality<u32> for ByNumber {
-    ghost same = { λ _. same_number };
+impl<T: Eq> Equality<T> for ByEq {
+    ghost same = { λ _. T.eq };
 
-    ghost lawful = { number_lawful };
+    ghost lawful = { by_laws T.Eq.laws };
 
-    fn equal(&self, a: &u32, b: &u32) -> bool {
-        *a == *b
+    fn equal(&self, a: &T, b: &T) -> bool {
+        a == b
     }
 }
 
-/// Pairs of numbers, equal where both parts are.
-#[derive(Clone, Copy)]
-pub struct ByParts;
-
-impl Equality<(u32, u32)> for ByParts {
-    ghost same = { λ _. same_parts };
-
-    ghost lawful = { parts_lawful };
-
-    fn equal(&self, a: &(u32, u32), b: &(u32, u32)) -> bool {
-        a.0 == b.0 && a.1 == b.1
-    }
+/// By `==` numbers are equal where they are the same number, and pairs of numbers where both parts are.
+pub fn numbers_are_equal_by_value(eq: &ByEq)
+    ensures numbers { (a b : ℕ) → ⟦<ByEq as Equality<u32>>⟧.same eq.now a b ≡ same_number a b }
+    ensures pairs { (a b : ℕ × ℕ) → ⟦<ByEq as Equality<(u32, u32)>>⟧.same eq.now a b ≡ same_parts a b }
+{
 }

@@ -14,5 +14,5 @@ pub struct Kept<'a, T> {
 }
 
 /// Every place of the lent slice is taken.
-#[derive(Clone, Copy)]
+#[derive(Clone, Copy, PartialEq, Eq, Debug)]
 pub struct Full;

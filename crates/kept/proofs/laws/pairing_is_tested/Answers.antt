@@ -3,4 +3,4 @@ use Rattle.kept.proofs.PairLaws.{lawful_at, test_is_relation}
 use Rattle.kept.proofs.laws.pairing_is_tested.Goals as goal
 
 pub returns : goal.returns
-returns g c = test_is_relation _ (lawful_at g.E.Equality.same g.E.Equality.lawful c.args.eq.now)
+returns g c = test_is_relation _ (lawful_at g.E.Equality.same g.met.E.Equality.lawful c.args.eq.now)

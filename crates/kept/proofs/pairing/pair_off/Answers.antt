@@ -18,6 +18,6 @@ returns-in-Ok g c =
     let xs = c.args.xs.now in
     let n = ap length c.new-left.ensures.list in (
       omega (arith, e.0, n, c.new-left.ensures.room),
-      answered (g.E.Equality.same c.args.eq.now) (lawful_at g.E.Equality.same g.E.Equality.lawful c.args.eq.now)
+      answered (g.E.Equality.same c.args.eq.now) (lawful_at g.E.Equality.same g.met.E.Equality.lawful c.args.eq.now)
           xs c.args.ys.now _ _ (e.1 ∙ ap (λ zs. zs ++ xs) c.new-left.ensures.list) c.take_all_off.ensures,
     )
