@@ -3,7 +3,8 @@ use Rattle.std.proofs.Common.{◌≡◌, ℕ, ◌+◌, ◌<◌, Bool, true, fals
 use Rattle.std.specs.List.{AllByRecursion}
 use Rattle.std.proofs.lemmas.Bool.{and_parts, and_from, false≢true}
 use Rattle.kept.specs.Equivalence.{Equivalence, EquivalenceOn}
-use Rattle.kept.specs.Searching.{any_by, without}
+use Rattle.std.specs.List.{list_any}
+use Rattle.kept.specs.Searching.{without}
 use Rattle.kept.specs.Pairing.{Pick, Paired, paired, one, count_passing, PairingIsEquivalence, TestIsRelation, PairingByCounts}
 use Rattle.kept.specs.Pairing.Pick.{here, there}
 use Rattle.kept.specs.Pairing.Paired.{no_more, partner}
@@ -14,7 +15,7 @@ bool_same false true f g = g refl
 bool_same false false f g = refl
 
 -- what is picked is the first that is equal
-pick_more : {X : Type 0} (same : X → X → Bool) (x y : X) (ys : List X) (b : Bool) → same x y ≡ b → (any_by (same x) ys ≡ true → Pick same x ys (without (same x) ys)) → (b || any_by (same x) ys) ≡ true → Pick same x (y ∷ ys) (cond b ys (y ∷ without (same x) ys))
+pick_more : {X : Type 0} (same : X → X → Bool) (x y : X) (ys : List X) (b : Bool) → same x y ≡ b → (list_any (same x) ys ≡ true → Pick same x ys (without (same x) ys)) → (b || list_any (same x) ys) ≡ true → Pick same x (y ∷ ys) (cond b ys (y ∷ without (same x) ys))
 pick_more same x y ys true e f h = here e
 pick_more same x y ys false e f h = there (f h)
 
@@ -22,13 +23,13 @@ any_more : (b r : Bool) (n : ℕ) → (0 < n → r ≡ true) → 0 < one b + n �
 any_more true r n f h = refl
 any_more false r n f h = f (omega arith)
 
-pub any_counted : {X : Type 0} (p : X → Bool) (xs : List X) → 0 < count_passing p xs → any_by p xs ≡ true
+pub any_counted : {X : Type 0} (p : X → Bool) (xs : List X) → 0 < count_passing p xs → list_any p xs ≡ true
 any_counted p [] h = absurd (omega arith)
-any_counted p (x ∷ xs) h = any_more (p x) (any_by p xs) (count_passing p xs) (any_counted p xs) h
+any_counted p (x ∷ xs) h = any_more (p x) (list_any p xs) (count_passing p xs) (any_counted p xs) h
 
 -- from the test to the relation: this asks nothing of the equality
 module _ {X : Type 0} (same : X → X → Bool) where
-  pub pick_first : (x : X) (ys : List X) → any_by (same x) ys ≡ true → Pick same x ys (without (same x) ys)
+  pub pick_first : (x : X) (ys : List X) → list_any (same x) ys ≡ true → Pick same x ys (without (same x) ys)
   pick_first x [] e = absurd (false≢true e)
   pick_first x (y ∷ ys) e = pick_more same x y ys (same x y) refl (pick_first x ys) e
 
@@ -36,7 +37,7 @@ module _ {X : Type 0} (same : X → X → Bool) where
   relation_from_test [] [] e = no_more
   relation_from_test [] (y ∷ ys) e = absurd (false≢true e)
   relation_from_test (x ∷ xs) ys e =
-      let h = and_parts (any_by (same x) ys) (paired same xs (without (same x) ys)) e in
+      let h = and_parts (list_any (same x) ys) (paired same xs (without (same x) ys)) e in
       partner (pick_first x ys h.0) (relation_from_test xs (without (same x) ys) h.1)
 
 pub all_pick : {X : Type 0} (P : X → Type 0) {same : X → X → Bool} {x : X} {ys rest : List X} → Pick same x ys rest → AllByRecursion P ys → AllByRecursion P rest
@@ -73,7 +74,7 @@ module _ {X : Type 0} (P : X → Type 0) (same : X → X → Bool) (eq : Equival
   test_from_counts (x ∷ xs) ys a b h =
       let r = ap one (eq.reflexive x a.0) in
       let k = h x a.0 in
-      let found : any_by (same x) ys ≡ true = any_counted (same x) ys (omega arith) in
+      let found : list_any (same x) ys ≡ true = any_counted (same x) ys (omega arith) in
       let d = pick_first same x ys found in
       and_from _ _ found
       (test_from_counts xs (without (same x) ys) a.1 (all_pick P d b)

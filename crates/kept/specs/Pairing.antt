@@ -1,6 +1,7 @@
 -- When the elements of two lists pair off, as a relation, as a test and by counts.
 use Rattle.std.specs.Prelude.{◌≡◌, ℕ, ◌+◌, Bool, true, false, ◌&&◌, ◌↔◌, List, [], ◌∷◌}
-use Rattle.kept.specs.Searching.{any_by, without}
+use Rattle.std.specs.List.{list_any}
+use Rattle.kept.specs.Searching.{without}
 
 -- `Pick same x ys rest`: an element equal to `x` stands in `ys`, and `rest` is `ys` without it
 pub data Pick {X : Type 0} (same : X → X → Bool) (x : X) : List X → List X → Type 0 where
@@ -20,7 +21,7 @@ none (x ∷ xs) = false
 -- the test: each element in turn takes off the first that is equal
 abbrev pub paired : {X : Type 0} → (X → X → Bool) → List X → List X → Bool
 paired same [] ys = none ys
-paired same (x ∷ xs) ys = any_by (same x) ys && paired same xs (without (same x) ys)
+paired same (x ∷ xs) ys = list_any (same x) ys && paired same xs (without (same x) ys)
 
 abbrev pub one : Bool → ℕ
 one true = 1

@@ -1,23 +1,8 @@
 -- The first element of a list that passes a test.
-use Rattle.std.specs.Prelude.{◌≡◌, ℕ, suc, ◌<◌, Bool, true, false, cond, ◌||◌, List, [], ◌∷◌, length, take, Some, None, Option, slice_index_or}
-use Rattle.std.specs.List.{remove, AllByRecursion}
+use Rattle.std.specs.Prelude.{◌≡◌, ℕ, ◌<◌, Bool, true, false, cond, List, [], ◌∷◌, length, take, Some, None, Option, slice_index_or, position}
+use Rattle.std.specs.List.{remove, AllByRecursion, list_any}
 
--- a place of the rest, counted from one element earlier
-abbrev pub later : Option ℕ → Option ℕ
-later None = None
-later (Some n) = Some (suc n)
-
--- its place
-abbrev pub first_by : {X : Type 0} → (X → Bool) → List X → Option ℕ
-first_by p [] = None
-first_by p (x ∷ xs) = cond (p x) (Some 0) (later (first_by p xs))
-
--- whether there is one
-abbrev pub any_by : {X : Type 0} → (X → Bool) → List X → Bool
-any_by p [] = false
-any_by p (x ∷ xs) = p x || any_by p xs
-
--- the list without it
+-- the list without the first element that passes
 abbrev pub without : {X : Type 0} → (X → Bool) → List X → List X
 without p [] = []
 without p (x ∷ xs) = cond (p x) xs (x ∷ without p xs)
@@ -27,13 +12,13 @@ pub record First {X : Type 0} (p : X → Bool) (xs : List X) (i : ℕ) : Type 0 
   pub below : i < length xs
   pub passes : (d : X) → p (slice_index_or xs i d) ≡ true
   pub before : AllByRecursion (λ x. p x ≡ false) (take i xs)
-  pub found : any_by p xs ≡ true
+  pub found : list_any p xs ≡ true
   pub rest : without p xs ≡ remove xs i
 
 -- `Missing p xs`: none passes, and `without` takes nothing off
 pub record Missing {X : Type 0} (p : X → Bool) (xs : List X) : Type 0 where
   pub fails : AllByRecursion (λ x. p x ≡ false) xs
-  pub found : any_by p xs ≡ false
+  pub found : list_any p xs ≡ false
   pub rest : without p xs ≡ xs
 
 -- what a search answers
@@ -43,4 +28,4 @@ Finds p xs (Some i) = First p xs i
 
 -- of every element and every list
 abbrev pub FindsFirst : {X : Type 0} → (X → X → Bool) → Type 0
-FindsFirst {X} same = (x : X) (xs : List X) → Finds (same x) xs (first_by (same x) xs)
+FindsFirst {X} same = (x : X) (xs : List X) → Finds (same x) xs (position (same x) xs)

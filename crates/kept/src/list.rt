@@ -1,5 +1,5 @@
 // What a kept list is.
-ghost use Rattle.std.specs.Prelude.{◌≤◌, length};
+use std::marker::Model;
 
 mod holding;
 
@@ -10,7 +10,17 @@ mod holding;
 pub struct Kept<'a, T> {
     items: &'a mut [T],
     len: usize,
-    ghost fits: { len ≤ length items.now },
+}
+
+impl<'a, T> Model for Kept<'a, T> {
+    ghost use Rattle.std.specs.Prelude.{◌-◌, ◌≤◌, length, take};
+    ghost use Rattle.kept.specs.Held.{Held};
+
+    ghost Value = { Held T };
+
+    ghost view = { λ k. record { elements = take k.len k.items.now; spare = length k.items.now - k.len } };
+
+    ghost invariant = { λ k. k.len ≤ length k.items.now };
 }
 
 /// Every place of the lent slice is taken.
