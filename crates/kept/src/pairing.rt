@@ -21,6 +21,7 @@ pub fn pair_off<T: Copy, E: Equality<T>>(eq: &E, xs: &[T], ys: &[T], room: &mut 
 fn take_all_off<T: Copy, E: Equality<T>>(left: &mut Kept<'_, T>, eq: &E, ys: &[T]) -> bool
     ensures { result ≡ paired (E.same eq.now) ys.now left.old.elements }
 {
+    // A loop and not `all`: nothing is known afterwards of a list that its closure changed, so that proof did not close.
     for y in ys {
         if !left.take_off(eq, y) {
             return false;
