@@ -1,11 +1,12 @@
 -- Pairing off, among values where equality is lawful: the relation, the test and the counts agree, and it is an equivalence.
-use Rattle.std.proofs.Common.{◌≡◌, ℕ, ◌+◌, ◌<◌, Bool, true, false, cond, ◌||◌, ◌↔◌, List, [], ◌∷◌, sym, refl, ap, ◌∙◌, arith}
-use Rattle.std.specs.List.{AllByRecursion}
+use Rattle.std.proofs.Common.{◌≡◌, ℕ, ◌+◌, ◌<◌, Bool, true, false, cond, ◌||◌, ◌↔◌, List, [], ◌∷◌, sym, refl, ap, ◌∙◌, subst, arith}
+use Rattle.std.specs.List.{AllByRecursion, count_by}
+use Rattle.std.proofs.lemmas.List.Sums.{sum_by-cons}
 use Rattle.std.proofs.lemmas.Bool.{and_parts, and_from, false≢true}
 use Rattle.kept.specs.Equivalence.{Equivalence, EquivalenceOn}
 use Rattle.std.specs.List.{list_any}
 use Rattle.kept.specs.Searching.{without}
-use Rattle.kept.specs.Pairing.{Pick, Paired, paired, one, count_passing, PairingIsEquivalence, TestIsRelation, PairingByCounts}
+use Rattle.kept.specs.Pairing.{Pick, Paired, paired, PairingIsEquivalence, TestIsRelation, PairingByCounts}
 use Rattle.kept.specs.Pairing.Pick.{here, there}
 use Rattle.kept.specs.Pairing.Paired.{no_more, partner}
 
@@ -19,13 +20,16 @@ pick_more : {X : Type 0} (same : X → X → Bool) (x y : X) (ys : List X) (b : 
 pick_more same x y ys true e f h = here e
 pick_more same x y ys false e f h = there (f h)
 
-any_more : (b r : Bool) (n : ℕ) → (0 < n → r ≡ true) → 0 < one b + n → (b || r) ≡ true
+count_by-cons : {X : Type 0} (p : X → Bool) (x : X) (xs : List X) → count_by p (x ∷ xs) ≡ cond (p x) 1 0 + count_by p xs
+count_by-cons p x xs = sum_by-cons (λ y. cond (p y) 1 0) x xs
+
+any_more : (b r : Bool) (n : ℕ) → (0 < n → r ≡ true) → 0 < cond b 1 0 + n → (b || r) ≡ true
 any_more true r n f h = refl
 any_more false r n f h = f (omega arith)
 
-pub any_counted : {X : Type 0} (p : X → Bool) (xs : List X) → 0 < count_passing p xs → list_any p xs ≡ true
+pub any_counted : {X : Type 0} (p : X → Bool) (xs : List X) → 0 < count_by p xs → list_any p xs ≡ true
 any_counted p [] h = absurd (omega arith)
-any_counted p (x ∷ xs) h = any_more (p x) (list_any p xs) (count_passing p xs) (any_counted p xs) h
+any_counted p (x ∷ xs) h = any_more (p x) (list_any p xs) (count_by p xs) (any_counted p xs) (subst (λ n. 0 < n) (count_by-cons p x xs) h)
 
 -- from the test to the relation: this asks nothing of the equality
 module _ {X : Type 0} (same : X → X → Bool) where
@@ -46,7 +50,7 @@ all_pick P (there d) a = (a.0, all_pick P d a.1)
 
 -- each value of which `P` holds has as many equals in both lists
 abbrev pub CountedOn : {X : Type 0} → (X → Type 0) → (X → X → Bool) → List X → List X → Type 0
-CountedOn {X} P same xs ys = (z : X) → P z → count_passing (same z) xs ≡ count_passing (same z) ys
+CountedOn {X} P same xs ys = (z : X) → P z → count_by (same z) xs ≡ count_by (same z) ys
 
 module _ {X : Type 0} (P : X → Type 0) (same : X → X → Bool) (eq : EquivalenceOn P same) where
   same_class : (z x y : X) → P z → P x → P y → same x y ≡ true → same z y ≡ same z x
@@ -55,32 +59,34 @@ module _ {X : Type 0} (P : X → Type 0) (same : X → X → Bool) (eq : Equival
       (λ h. eq.transitive z y x pz py px h (eq.symmetric x y px py e))
       (λ h. eq.transitive z x y pz px py h e)
 
-  count_pick : (z x : X) {ys rest : List X} → P z → P x → AllByRecursion P ys → Pick same x ys rest → count_passing (same z) ys ≡ one (same z x) + count_passing (same z) rest
-  count_pick z x {ys = y ∷ ys} pz px a (here e) = ap (λ b. one b + count_passing (same z) ys) (same_class z x y pz px a.0 e)
-  count_pick z x pz px a (there d) = let h = count_pick z x pz px a.1 d in omega arith
+  count_pick : (z x : X) {ys rest : List X} → P z → P x → AllByRecursion P ys → Pick same x ys rest → count_by (same z) ys ≡ cond (same z x) 1 0 + count_by (same z) rest
+  count_pick z x {ys = y ∷ ys} pz px a (here e) =
+      count_by-cons (same z) y ys ∙ ap (λ b. cond b 1 0 + count_by (same z) ys) (same_class z x y pz px a.0 e)
+  count_pick z x pz px a (there {y = y} {ys = ys} {rest = rest} d) =
+      omega (arith, count_pick z x pz px a.1 d, count_by-cons (same z) y ys, count_by-cons (same z) y rest)
 
   -- from the relation to the counts
   pub counts_from_relation : {xs ys : List X} → AllByRecursion P xs → AllByRecursion P ys → Paired same xs ys → CountedOn P same xs ys
   counts_from_relation a b no_more z pz = refl
-  counts_from_relation a b (partner {x = x} d r) z pz =
-      ap (λ n. one (same z x) + n) (counts_from_relation a.1 (all_pick P d b) r z pz) ∙ sym (count_pick z x pz a.0 b d)
+  counts_from_relation a b (partner {x = x} {xs = xs} d r) z pz =
+      count_by-cons (same z) x xs ∙ ap (λ n. cond (same z x) 1 0 + n) (counts_from_relation a.1 (all_pick P d b) r z pz) ∙ sym (count_pick z x pz a.0 b d)
 
   -- from the counts to the test
   pub test_from_counts : (xs ys : List X) → AllByRecursion P xs → AllByRecursion P ys → CountedOn P same xs ys → paired same xs ys ≡ true
   test_from_counts [] [] a b h = refl
   test_from_counts [] (y ∷ ys) a b h =
       let k = h y b.0 in
-      let r = ap one (eq.reflexive y b.0) in absurd (omega arith)
+      let r : cond {A = ℕ} (same y y) 1 0 ≡ 1 = ap (λ t. cond t 1 0) (eq.reflexive y b.0) in absurd (omega (arith, count_by-cons (same y) y ys))
   test_from_counts (x ∷ xs) ys a b h =
-      let r = ap one (eq.reflexive x a.0) in
+      let r : cond {A = ℕ} (same x x) 1 0 ≡ 1 = ap (λ t. cond t 1 0) (eq.reflexive x a.0) in
       let k = h x a.0 in
-      let found : list_any (same x) ys ≡ true = any_counted (same x) ys (omega arith) in
+      let found : list_any (same x) ys ≡ true = any_counted (same x) ys (omega (arith, count_by-cons (same x) x xs)) in
       let d = pick_first same x ys found in
       and_from _ _ found
       (test_from_counts xs (without (same x) ys) a.1 (all_pick P d b)
       (λ z pz.
       let m = count_pick z x pz a.0 b d in
-      let l = h z pz in omega arith))
+      let l = h z pz in omega (arith, count_by-cons (same z) x xs)))
 
   pub relation_from_counts : (xs ys : List X) → AllByRecursion P xs → AllByRecursion P ys → CountedOn P same xs ys → Paired same xs ys
   relation_from_counts xs ys a b h = relation_from_test same xs ys (test_from_counts xs ys a b h)

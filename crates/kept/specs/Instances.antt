@@ -1,5 +1,5 @@
 -- Equality by `==`, and of plain values, and that it is an equivalence.
-use Rattle.std.specs.Prelude.{◌≡◌, ℕ, Bool, true, ◌&&◌, ◌==◌}
+use Rattle.std.specs.Prelude.{ℕ, Bool, ◌&&◌, ◌==◌}
 use Rattle.std.specs.Cmp.{IsEquivalence, nat_eq_equiv, on_equiv, and_equiv}
 use Rattle.std.proofs.Common.{◌∙◌}
 use Rattle.kept.specs.Equivalence.{Equivalence}

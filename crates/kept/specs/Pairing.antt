@@ -1,5 +1,5 @@
 -- When the elements of two lists pair off, as a relation, as a test and by counts.
-use Rattle.std.specs.Prelude.{◌≡◌, ℕ, ◌+◌, Bool, true, false, ◌&&◌, ◌↔◌, List, [], ◌∷◌}
+use Rattle.std.specs.Prelude.{◌≡◌, Bool, true, false, ◌&&◌, ◌↔◌, List, [], ◌∷◌, count_by}
 use Rattle.std.specs.List.{list_any}
 use Rattle.kept.specs.Searching.{without}
 
@@ -23,18 +23,9 @@ abbrev pub paired : {X : Type 0} → (X → X → Bool) → List X → List X �
 paired same [] ys = none ys
 paired same (x ∷ xs) ys = list_any (same x) ys && paired same xs (without (same x) ys)
 
-abbrev pub one : Bool → ℕ
-one true = 1
-one false = 0
-
--- how many pass
-abbrev pub count_passing : {X : Type 0} → (X → Bool) → List X → ℕ
-count_passing p [] = 0
-count_passing p (x ∷ xs) = one (p x) + count_passing p xs
-
 -- each value has as many equals in both lists
 abbrev pub Counted : {X : Type 0} → (X → X → Bool) → List X → List X → Type 0
-Counted {X} same xs ys = (z : X) → count_passing (same z) xs ≡ count_passing (same z) ys
+Counted {X} same xs ys = (z : X) → count_by (same z) xs ≡ count_by (same z) ys
 
 -- the laws
 pub record PairingIsEquivalence {X : Type 0} (same : X → X → Bool) : Type 0 where

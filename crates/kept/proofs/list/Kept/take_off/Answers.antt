@@ -1,5 +1,5 @@
 -- The others moved down by one.
-use Rattle.std.proofs.Common.{◌≡◌, ◌+◌, ◌<◌, Some, take, length, sym, ap, ◌∙◌, subst, arith, length-take}
+use Rattle.std.proofs.Common.{◌≡◌, ◌<◌, take, length, sym, ap, ◌∙◌, subst, arith, length-take}
 use Rattle.std.specs.List.{remove}
 use Rattle.kept.specs.Searching.{Finds, First}
 use Rattle.kept.proofs.Removing.{take-copy_within}
