@@ -1,6 +1,6 @@
 // The equality of every type that has `==`.
 ghost use Rattle.std.specs.Prelude.{◌≡◌, ℕ};
-ghost use Rattle.kept.specs.Instances.{same_number, same_parts, by_laws};
+ghost use Rattle.kept.specs.Instances.{same_number, same_parts};
 
 use crate::equality::Equality;
 
@@ -11,7 +11,7 @@ pub struct ByEq;
 impl<T: Eq> Equality<T> for ByEq {
     ghost same = { λ _. T.eq };
 
-    ghost lawful = { by_laws T.Eq.laws };
+    ghost lawful = { λ _. T.Eq.laws };
 
     fn equal(&self, a: &T, b: &T) -> bool {
         a == b

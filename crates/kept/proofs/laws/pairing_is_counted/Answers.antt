@@ -1,6 +1,6 @@
 -- The relation by counts, for a lawful equality.
-use Rattle.kept.proofs.PairLaws.{lawful_at, pairing_by_counts}
+use Rattle.kept.proofs.PairLaws.{pairing_by_counts}
 use Rattle.kept.proofs.laws.pairing_is_counted.Goals as goal
 
 pub returns : goal.returns
-returns g c = pairing_by_counts _ (lawful_at g.E.Equality.same g.met.E.Equality.lawful c.args.eq.now)
+returns g c = pairing_by_counts _ (g.met.E.Equality.lawful c.args.eq.now)

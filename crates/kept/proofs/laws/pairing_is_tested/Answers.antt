@@ -1,6 +1,6 @@
 -- The relation by the test, for a lawful equality.
-use Rattle.kept.proofs.PairLaws.{lawful_at, test_is_relation}
+use Rattle.kept.proofs.PairLaws.{test_is_relation}
 use Rattle.kept.proofs.laws.pairing_is_tested.Goals as goal
 
 pub returns : goal.returns
-returns g c = test_is_relation _ (lawful_at g.E.Equality.same g.met.E.Equality.lawful c.args.eq.now)
+returns g c = test_is_relation _ (g.met.E.Equality.lawful c.args.eq.now)

@@ -1,11 +1,11 @@
 -- The test of `ys` against `xs` tells whether `xs` and `ys` pair off.
 use Rattle.std.proofs.Common.{◌≡◌, Bool, true, ◌↔◌, List, ◌++◌, length, Ok, Err, Result, is_ok, MatchResult, sym, ap, ◌∙◌, arith}
-use Rattle.kept.specs.Equivalence.{EquivalenceOn}
+use Rattle.std.specs.Cmp.{IsEquivalence}
 use Rattle.kept.specs.Pairing.{Paired, paired}
-use Rattle.kept.proofs.PairLaws.{Anything, lawful_at, test_is_relation, pairing_is_equivalence}
+use Rattle.kept.proofs.PairLaws.{test_is_relation, pairing_is_equivalence}
 use Rattle.kept.proofs.pairing.pair_off.Goals as goal
 
-answered : {X : Type 0} (same : X → X → Bool) → EquivalenceOn Anything same → (xs ys held : List X) (b : Bool) → held ≡ xs → b ≡ paired same ys held → (b ≡ true) ↔ Paired same xs ys
+answered : {X : Type 0} (same : X → X → Bool) → IsEquivalence same → (xs ys held : List X) (b : Bool) → held ≡ xs → b ≡ paired same ys held → (b ≡ true) ↔ Paired same xs ys
 answered same eq xs ys held b h e =
     let test : b ≡ paired same ys xs = e ∙ ap (paired same ys) h in (
       λ t. (pairing_is_equivalence same eq).symmetric ys xs ((test_is_relation same eq ys xs).0 (sym test ∙ t)),
@@ -22,6 +22,6 @@ returns g c =
     let xs = c.args.xs.now in
     let filled = at_ok _ c.extend_from_slice.result c.in_ok-ok.ensures.variant c.extend_from_slice.ensures.list in (
       omega (arith, filled.0, ap length c.new-left.ensures.list, c.new-left.ensures.room),
-      answered (g.E.Equality.same c.args.eq.now) (lawful_at g.E.Equality.same g.met.E.Equality.lawful c.args.eq.now)
+      answered (g.E.Equality.same c.args.eq.now) (g.met.E.Equality.lawful c.args.eq.now)
           xs c.args.ys.now _ _ (filled.1 ∙ ap (λ zs. zs ++ xs) c.new-left.ensures.list) c.take_all_off.ensures,
     )
