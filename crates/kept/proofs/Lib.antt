@@ -2,4 +2,3 @@
 pub mod Finding
 pub mod Removing
 pub mod PairLaws
-pub mod PairTest
