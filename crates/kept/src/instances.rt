@@ -22,5 +22,4 @@ impl<T: Eq> Equality<T> for ByEq {
 pub fn numbers_are_equal_by_value(eq: &ByEq)
     ensures numbers { (a b : ℕ) → ⟦<ByEq as Equality<u32>>⟧.same eq.now a b ≡ same_number a b }
     ensures pairs { (a b : ℕ × ℕ) → ⟦<ByEq as Equality<(u32, u32)>>⟧.same eq.now a b ≡ same_parts a b }
-{
-}
+{}

@@ -60,9 +60,9 @@ impl<'a, T: Copy> Kept<'a, T> {
         ensures room { room_of self.new ≡ room_of self.old }
         ensures list { MatchResult result
             (λ _. (length self.old.elements + length xs.now ≤ room_of self.old)
-                × (self.new.elements ≡ self.old.elements ++ xs.now))
+            × (self.new.elements ≡ self.old.elements ++ xs.now))
             (λ _. (room_of self.old < length self.old.elements + length xs.now)
-                × (self.new.elements ≡ self.old.elements)) }
+            × (self.new.elements ≡ self.old.elements)) }
     {
         if self.items.len() - self.len < xs.len() {
             return Err(Full);
