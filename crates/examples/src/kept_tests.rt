@@ -4,12 +4,10 @@ use kept::instances::ByEq;
 use kept::list::Kept;
 use kept::pairing::pair_off;
 
-// A list that holds `xs`, as far as there are places.
+// A list that holds `xs`, or nothing where there are too few places.
 fn kept_of<'a, T: Copy>(places: &'a mut [T], xs: &[T]) -> Kept<'a, T> {
     let mut kept = Kept::new(places);
-    for x in xs {
-        let _ = kept.push(*x);
-    }
+    let _ = kept.extend_from_slice(xs);
     kept
 }
 
@@ -50,37 +48,36 @@ fn taking_an_absent_one_off_changes_nothing(rt: HostRuntime) {
     assert_eq!(rt; kept.find(&ByEq, &5), Some(0));
 }
 
-// Whether lists of numbers pair off, with room for three.
-fn numbers_pair_off(xs: &[u32], ys: &[u32]) -> Option<bool> {
-    pair_off(&ByEq, xs, ys, &mut [0; 3])
-}
-
-// Whether lists of pairs pair off, with room for two.
-fn pairs_pair_off(xs: &[(u32, u32)], ys: &[(u32, u32)]) -> Option<bool> {
-    pair_off(&ByEq, xs, ys, &mut [(0, 0); 2])
-}
-
 #[test]
 fn numbers_pair_off_in_any_order(rt: HostRuntime) {
-    assert_eq!(rt; numbers_pair_off(&[1, 2, 1], &[2, 1, 1]), Some(true));
-    assert_eq!(rt; numbers_pair_off(&[1, 1], &[1]), Some(false));
-    assert_eq!(rt; numbers_pair_off(&[1], &[1, 1]), Some(false));
+    let mut room = [0u32; 3];
+    assert_eq!(rt;
+        pair_off(&ByEq, &[1, 2, 1], &[2, 1, 1], &mut room),
+        Some(true)
+    );
+    assert_eq!(rt; pair_off(&ByEq, &[1, 1], &[1], &mut room), Some(false));
+    assert_eq!(rt; pair_off(&ByEq, &[1], &[1, 1], &mut room), Some(false));
 }
 
 #[test]
 fn pairs_pair_off_by_both_parts(rt: HostRuntime) {
+    let mut room = [(0u32, 0u32); 2];
     assert_eq!(rt;
-        pairs_pair_off(&[(1, 2), (2, 1)], &[(2, 1), (1, 2)]),
+        pair_off(&ByEq, &[(1, 2), (2, 1)], &[(2, 1), (1, 2)], &mut room),
         Some(true)
     );
     assert_eq!(rt;
-        pairs_pair_off(&[(1, 2), (2, 1)], &[(2, 2), (1, 1)]),
+        pair_off(&ByEq, &[(1, 2), (2, 1)], &[(2, 2), (1, 1)], &mut room),
         Some(false)
     );
 }
 
 #[test]
 fn pairing_wants_room_for_the_first_list(rt: HostRuntime) {
-    assert_eq!(rt; numbers_pair_off(&[1, 2, 3, 4], &[1]), None);
-    assert_eq!(rt; numbers_pair_off(&[1], &[1, 2, 3, 4]), Some(false));
+    let mut room = [0u32; 3];
+    assert_eq!(rt; pair_off(&ByEq, &[1, 2, 3, 4], &[1], &mut room), None);
+    assert_eq!(rt;
+        pair_off(&ByEq, &[1], &[1, 2, 3, 4], &mut room),
+        Some(false)
+    );
 }

@@ -12,6 +12,7 @@ pub struct Kept<'a, T> {
     len: usize,
 }
 
+// A clause sees the elements and how many more there are places for, and no field.
 impl<'a, T> Model for Kept<'a, T> {
     ghost use Rattle.std.specs.Prelude.{◌-◌, ◌≤◌, length, take};
     ghost use Rattle.kept.specs.Held.{Held};
