@@ -6,6 +6,7 @@ mod holding;
 /// A kept list: elements held in the order in which they came, in the first places of a slice that the caller lends.
 /// It finds the first element that equals a given one, and takes it off; how elements are compared is passed to each
 /// call.
+// A slice and a length, and no `Vec`: the places are lent, and there is no heap.
 #[derive(Drop)]
 pub struct Kept<'a, T> {
     items: &'a mut [T],
