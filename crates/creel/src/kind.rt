@@ -4,9 +4,8 @@ ghost use Rattle.events.specs.View.{view_of};
 ghost use Rattle.creel.specs.Kinds.{Of, OfRecord, ReadsInteger};
 
 use events::ev::Ev;
-use records::record::{Record, ScalarStyle};
-use records::tags::SfTag;
-use scalars::typed::{integer_of, scalar_is_null};
+use records::record::Record;
+use scalars::typed::Scalar;
 
 /// The six kinds of events, and the scalars among them that read as integers and as nulls.
 #[derive(Clone, Copy)]
@@ -21,10 +20,10 @@ pub enum Kind {
     Null,
 }
 
-fn reads_as_integer(tag: SfTag, text: &[u8], style: ScalarStyle) -> bool
-    ensures { Decides result (ReadsInteger tag style text.now) }
+fn reads_as_integer(scalar: Scalar) -> bool
+    ensures { Decides result (ReadsInteger scalar.entry.tag scalar.entry.style scalar.entry.value.now) }
 {
-    integer_of(tag, text, style).is_some()
+    scalar.integer().is_some()
 }
 
 fn is_of(ev: Ev, kind: Kind) -> bool
@@ -38,8 +37,8 @@ fn is_of(ev: Ev, kind: Kind) -> bool
             ..
         } => match kind {
             Kind::Scalar => true,
-            Kind::Integer => reads_as_integer(tag, value, style),
-            Kind::Null => scalar_is_null(tag, value, style),
+            Kind::Integer => reads_as_integer(Scalar { value, tag, style }),
+            Kind::Null => Scalar { value, tag, style }.is_null(),
             _ => false,
         },
         Ev::SeqStart { .. } => matches!(kind, Kind::SeqStart),

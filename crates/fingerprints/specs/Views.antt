@@ -1,12 +1,12 @@
 -- Merge keys and nulls among the events as they are seen.
-use Rattle.std.specs.Prelude.{◌≡◌, ℕ, Bool, false, not, ◌&&◌, ◌||◌, List, codes}
+use Rattle.std.specs.Prelude.{◌≡◌, ℕ, Bool, false, ◌&&◌, ◌||◌, List, codes}
 use Rattle.records.specs.declared.location.Location.{Location}
 use Rattle.records.specs.declared.record.ScalarStyle.{ScalarStyle}
 use Rattle.records.specs.declared.tags.SfTag.{SfTag}
-use Rattle.records.specs.declared.tags.SfTag.TheVariants.{None, Null, Binary, Merge}
-use Rattle.records.specs.Tags.{core, forced, same_tag}
+use Rattle.records.specs.declared.tags.SfTag.TheVariants.{None, Merge}
+use Rattle.records.specs.Tags.{same_tag}
 use Rattle.scalars.specs.Typed.{plain}
-use Rattle.scalars.specs.Computed.{null_text, equal_bytes}
+use Rattle.scalars.specs.Computed.{null_over, equal_bytes}
 use Rattle.events.specs.View.{View, viewed}
 use Rattle.events.specs.View.View.{scalar, seq_start, seq_end, map_start, map_end, recursive_alias}
 use Rattle.nodes.specs.Tree.{Text, scalar_event}
@@ -14,9 +14,6 @@ use Rattle.nodes.specs.Fields.{merge_words, null_words}
 
 abbrev pub merge_over : List ℕ → SfTag → ScalarStyle → Bool
 merge_over value t s = equal_bytes value (codes "<<") && (same_tag t Merge || (same_tag t None && plain s))
-
-abbrev pub null_over : List ℕ → SfTag → ScalarStyle → Bool
-null_over value t s = same_tag t Null || (not (core t) && (not (forced t) && (not (same_tag t Binary) && (plain s && null_text value))))
 
 abbrev pub merge_key : View → Bool
 merge_key (scalar v t w s a l) = merge_over v t s

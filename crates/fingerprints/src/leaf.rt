@@ -1,6 +1,5 @@
 // What scalars and recursive aliases count as when keys are compared.
-ghost use Rattle.std.specs.Prelude.{◌≡◌, ◌&&◌};
-ghost use Rattle.std.specs.Option.{option_map};
+ghost use Rattle.std.specs.Prelude.{◌≡◌, ◌&&◌, option_copied};
 ghost use Rattle.scalars.specs.Typed.{plain};
 ghost use Rattle.scalars.specs.Computed.{null_text};
 ghost use Rattle.nodes.specs.Prints.{untagged};
@@ -8,13 +7,14 @@ ghost use Rattle.nodes.specs.Alike.{same_leaf};
 ghost use Rattle.fingerprints.specs.Stands.{canon_of, stands_for};
 ghost use Rattle.fingerprints.specs.Bytes.{tag_over, leaf_over};
 
-use crate::computed::{integer_in, is_null_text, same_bytes};
-use crate::tag::{CanonicalKeyTag, canonical_scalar_key_tag, same_tags};
+use crate::tag::{CanonicalKeyTag, WrittenTag};
 use records::record::ScalarStyle;
 use records::tags::SfTag;
+use scalars::nulls::scalar_is_nullish;
+use scalars::typed::Scalar;
 
 /// An alias to a node that is still open, an integer by its value, or another scalar by its bytes and its tag.
-#[derive(Clone, Copy)]
+#[derive(Clone, Copy, PartialEq, Eq, Debug)]
 pub enum KeyLeaf<'t> {
     RecursiveAlias {
         anchor: u32,
@@ -29,47 +29,38 @@ pub enum KeyLeaf<'t> {
     },
 }
 
-fn is_implicit_null(value: &[u8], tag: SfTag, style: ScalarStyle) -> bool
-    ensures { result ≡ (untagged tag && (plain style && null_text value.now)) }
+fn is_implicit_null(scalar: Scalar) -> bool
+    ensures { result ≡ (untagged scalar.entry.tag && (plain scalar.entry.style && null_text scalar.entry.value.now)) }
 {
-    match (tag, style) {
-        (SfTag::None, ScalarStyle::Plain) => is_null_text(value),
-        _ => false,
-    }
+    matches!(
+        (scalar.tag, scalar.style),
+        (SfTag::None, ScalarStyle::Plain)
+    ) && scalar_is_nullish(scalar.value)
 }
 
-fn scalar_tag<'t>(
-    value: &[u8],
-    tag: SfTag,
-    raw: Option<&'t [u8]>,
-    style: ScalarStyle,
-) -> CanonicalKeyTag<'t>
-    ensures { canon_of result ≡ tag_over value.now tag (option_map (λ x. x.now) raw.entry) style }
+fn scalar_tag<'t>(scalar: Scalar, raw: Option<&'t [u8]>) -> CanonicalKeyTag<'t>
+    ensures { canon_of result ≡ tag_over scalar.entry.value.now scalar.entry.tag (option_copied raw.entry) scalar.entry.style }
 {
-    if is_implicit_null(value, tag, style) {
+    if is_implicit_null(scalar) {
         CanonicalKeyTag::Semantic(SfTag::Null)
     } else {
-        canonical_scalar_key_tag(tag, raw)
+        let tag = scalar.tag;
+        WrittenTag { tag, raw }.canonical_scalar_key_tag()
     }
 }
 
-/// What a scalar counts as: an integer by its value, another by its bytes and its tag.
-pub fn scalar_leaf<'t>(
-    value: &'t [u8],
-    tag: SfTag,
-    raw: Option<&'t [u8]>,
-    style: ScalarStyle,
-) -> KeyLeaf<'t>
-    ensures { stands_for result ≡ leaf_over value.now tag (option_map (λ x. x.now) raw.entry) style }
+/// What a scalar counts as, its tag written as `raw` where it is: an integer by its value, another by its bytes and tag.
+pub fn scalar_leaf<'t>(scalar: Scalar<'t>, raw: Option<&'t [u8]>) -> KeyLeaf<'t>
+    ensures { stands_for result ≡ leaf_over scalar.entry.value.now scalar.entry.tag (option_copied raw.entry) scalar.entry.style }
 {
-    match integer_in(value, tag, style) {
+    match scalar.integer() {
         Some((negative, magnitude)) => KeyLeaf::Integer {
             negative,
             magnitude,
         },
         None => KeyLeaf::Scalar {
-            value,
-            tag: scalar_tag(value, tag, raw, style),
+            value: scalar.value,
+            tag: scalar_tag(scalar, raw),
         },
     }
 }
@@ -78,21 +69,5 @@ pub fn scalar_leaf<'t>(
 pub fn same_leaves(a: KeyLeaf, b: KeyLeaf) -> bool
     ensures { result ≡ same_leaf (stands_for a.entry) (stands_for b.entry) }
 {
-    match (a, b) {
-        (KeyLeaf::RecursiveAlias { anchor: a }, KeyLeaf::RecursiveAlias { anchor: b }) => a == b,
-        (
-            KeyLeaf::Integer {
-                negative: a,
-                magnitude: m,
-            },
-            KeyLeaf::Integer {
-                negative: b,
-                magnitude: n,
-            },
-        ) => a == b && m == n,
-        (KeyLeaf::Scalar { value: a, tag: c }, KeyLeaf::Scalar { value: b, tag: d }) => {
-            same_bytes(a, b) && same_tags(c, d)
-        }
-        _ => false,
-    }
+    a == b
 }

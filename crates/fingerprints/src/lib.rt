@@ -1,7 +1,6 @@
 // Fingerprints of single records: what of a scalar, an alias or a tag counts when keys are compared.
 #![tactic(auto)]
 
-mod computed;
 pub mod leaf;
 pub mod merge;
 pub mod tag;

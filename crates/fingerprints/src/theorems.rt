@@ -3,22 +3,16 @@ ghost use Rattle.fingerprints.specs.Bytes.{LeavesOverBytes};
 ghost use Rattle.fingerprints.specs.Views.{MergeKeysViewed, NullsViewed};
 
 /// What a scalar counts as by its bytes is what it counts as by its places in the text.
-pub fn leaves_over_bytes() -> u8
+pub fn leaves_over_bytes()
     ensures { LeavesOverBytes }
-{
-    0
-}
+{}
 
 /// An event as it is seen is a merge key exactly where its record is.
-pub fn merge_keys_viewed() -> u8
+pub fn merge_keys_viewed()
     ensures { MergeKeysViewed }
-{
-    0
-}
+{}
 
 /// An event as it is seen is a null exactly where its record is.
-pub fn nulls_viewed() -> u8
+pub fn nulls_viewed()
     ensures { NullsViewed }
-{
-    0
-}
+{}

@@ -1,8 +1,9 @@
 -- What is computed of a text is what it says.
-use Rattle.std.proofs.Common.{◌≡◌, ℕ, ◌^◌, ◌<◌, ◌≤◌, Bool, true, false, cond, not, ◌&&◌, eqb, ltb, ◌↔◌, List, [], ◌∷◌, map, Some, None, codes, Option, sym, refl, ap, ◌∙◌, ap₂, arith}
+use Rattle.std.proofs.Common.{◌≡◌, ℕ, ◌^◌, ◌<◌, ◌≤◌, Bool, true, false, cond, not, ◌&&◌, eqb, ltb, ◌↔◌, List, [], map, Some, None, codes, Option, sym, refl, ◌∙◌, subst, arith}
 use Rattle.std.specs.Char.{to_ascii_lowercase}
-use Rattle.std.proofs.lemmas.Bool.{eqb-true, eq-eqb, ltb-true, ltb-false, and_parts, and_from, false≢true}
+use Rattle.std.proofs.lemmas.Bool.{ltb-true, ltb-false, false≢true}
 use Rattle.std.proofs.lemmas.Bool.Decides.{nat_tests, Decides-or}
+use Rattle.std.proofs.lemmas.Slice.Eq.{bytes_eq-Decides}
 use Rattle.scalars.specs.Computed.{equal_bytes, zero_leads, signed, integer_by, integer_bare, integer_in, bare_front, bare_back, IntegersComputed, NullsComputed}
 use Rattle.scalars.specs.Radices.{radix_of, digits_of}
 use Rattle.scalars.specs.Running.{State, start, run}
@@ -16,27 +17,15 @@ use Rattle.scalars.proofs.Prefixes.{radix_bounds, zero_is_leading, no_zero_leads
 use Rattle.scalars.proofs.Trimming.{trimmed_computed}
 
 -- texts of the same bytes
-bytes_true : (a b : List ℕ) → equal_bytes a b ≡ true → a ≡ b
-bytes_true [] [] h = refl
-bytes_true [] (b ∷ bs) h = absurd (false≢true h)
-bytes_true (a ∷ as') [] h = absurd (false≢true h)
-bytes_true (a ∷ as') (b ∷ bs) h =
-    let (p, q) = and_parts (eqb a b) (equal_bytes as' bs) h in
-    ap₂ ◌∷◌ (eqb-true a b p) (bytes_true as' bs q)
-
-bytes_same : (a : List ℕ) → equal_bytes a a ≡ true
-bytes_same [] = refl
-bytes_same (a ∷ as') = and_from _ _ (eq-eqb a a refl) (bytes_same as')
-
 pub same_bytes : (a b : List ℕ) → (equal_bytes a b ≡ true) ↔ (a ≡ b)
-same_bytes a b = (bytes_true a b, λ e. ap (equal_bytes a) (sym e) ∙ bytes_same a)
+same_bytes = bytes_eq-Decides
 
 pub nulls_computed : NullsComputed
 nulls_computed text =
     Decides-or _ _ (same_bytes text []) (Decides-or _ _ (same_bytes text (codes "~")) (same_bytes (map to_ascii_lowercase text) (codes "null")))
 
 -- what sign, radix and digits say, within 64 bits
-abbrev Told : Bool → ℕ → List ℕ → Option (Bool × ℕ) → Type 0
+abbrev pub Told : Bool → ℕ → List ℕ → Option (Bool × ℕ) → Type 0
 Told minus radix ds (Some (n, m)) = Says minus radix ds n m × (m < 2 ^ 64)
 Told minus radix ds None = (n : Bool) (m : ℕ) → Says minus radix ds n m → m < 2 ^ 64 → ⊥
 
@@ -76,5 +65,12 @@ reading_unique text (Some (n, m)) None (s, fits) h = absurd (h n m s fits)
 reading_unique text None (Some (n, m)) h (s, fits) = absurd (h n m s fits)
 reading_unique text None None h k = refl
 
-pub reading_is : (text : List ℕ) (r : Option (Bool × ℕ)) → Reading text r → r ≡ integer_in text
-reading_is text r h = reading_unique text r (integer_in text) h (integers_computed text)
+-- what the code finds in a text, part by part, and what it is told of them is the text's reading, and the one that is computed
+pub read_in : {text r u ds : List ℕ} {minus : Bool} {radix : ℕ} → Trimmed text r → minus ≡ is_minus r → u ≡ unsigned r → radix ≡ radix_of u → ds ≡ digits_of u
+    → (o : Option (Bool × ℕ)) → Told minus radix ds o → Reading text o × (o ≡ integer_in text)
+read_in {text} {r} {u} {ds} {minus} {radix} d p q e f o h =
+    let k =
+    subst (λ x. Told x (radix_of (unsigned r)) (digits_of (unsigned r)) o) p
+    (subst (λ x. Told minus (radix_of x) (digits_of x) o) q (subst (λ x. Told minus x (digits_of u) o) e (subst (λ x. Told minus radix x o) f h))) in
+    let reading = read_parts text r o d k in
+    (reading, reading_unique text o (integer_in text) reading (integers_computed text))

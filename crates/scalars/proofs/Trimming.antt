@@ -1,9 +1,9 @@
 -- Blanks are dropped one by one, and one text only is left at the end.
-use Rattle.std.proofs.Common.{◌≡◌, ℕ, ◌+◌, ◌-◌, ◌<◌, Bool, true, false, cond, List, [], ◌∷◌, ◌++◌, length, get_or, take, drop, sym, refl, ap, ◌∙◌, subst, ap₂, append_assoc, arith}
+use Rattle.std.proofs.Common.{◌≡◌, ℕ, ◌+◌, ◌-◌, ◌<◌, ◌≤◌, Bool, true, false, cond, List, [], ◌∷◌, ◌++◌, length, get_or, take, drop, sym, refl, ap, ◌∙◌, subst, ap₂, append-nil, drop-drop, length-drop, length-take-le, take-append-drop, ⊎_elim, arith}
 use Rattle.std.specs.List.{AllByRecursion}
-use Rattle.std.proofs.ByRecursion.{All-push, All-append}
-use Rattle.std.proofs.lemmas.List.{take_all, take_more, take_rest, length_push, same_from_push}
-use Rattle.std.proofs.lemmas.Bool.{both_ways}
+use Rattle.std.proofs.ByRecursion.{All-append, All-from_get_or}
+use Rattle.std.proofs.lemmas.List.{take_all, take_more, length_push, same_from_push, get_or-take, get_or-drop}
+use Rattle.std.proofs.lemmas.Bool.{both_ways, cases_lt}
 use Rattle.scalars.specs.Trimmed.{blank, Blanks, BeginsBare, EndsBare, TrimmedStart, TrimmedEnd, Trimmed}
 use Rattle.scalars.specs.Computed.{bare_front, ahead, bare_back}
 
@@ -13,27 +13,8 @@ Blank b = blank b ≡ true
 abbrev pub Bare : ℕ → Type 0
 Bare b = blank b ≡ false
 
--- text is rest behind blanks, and before blanks
-abbrev pub Behind : List ℕ → List ℕ → Type 0
-Behind text rest = (ws : List ℕ) × (text ≡ ws ++ rest) × Blanks ws
-
-abbrev pub Before : List ℕ → List ℕ → Type 0
-Before text rest = (vs : List ℕ) × (text ≡ rest ++ vs) × Blanks vs
-
-pub behind_more : (text rest : List ℕ) → 0 < length rest → blank (get_or rest 0 0) ≡ true → Behind text rest
-    → Behind text (take (length rest - 1) (drop 1 rest))
-behind_more text [] h b d = absurd (omega arith)
-behind_more text (x ∷ xs) h b (ws, e, bs) =
-    subst (Behind text) (sym (take_rest (x ∷ xs) 1))
-    (ws ++ (x ∷ []), e ∙ sym (append_assoc ws (x ∷ []) xs), All-push Blank ws x bs b)
-
 last_split : (r : List ℕ) → 0 < length r → r ≡ take (length r - 1) r ++ (get_or r (length r - 1) 0 ∷ [])
 last_split r h = sym (take_all (length r - 1 + 1) r (omega arith)) ∙ take_more r (length r - 1) 0 (omega arith)
-
-pub before_more : (text rest : List ℕ) → 0 < length rest → blank (get_or rest (length rest - 1) 0) ≡ true → Before text rest
-    → Before text (take (length rest - 1) rest)
-before_more text rest h b (vs, e, bs) =
-    (get_or rest (length rest - 1) 0 ∷ vs, e ∙ ap (λ r. r ++ vs) (last_split rest h) ∙ append_assoc (take (length rest - 1) rest) _ vs, (b, bs))
 
 pub ends_empty : (r : List ℕ) → length r < 1 → EndsBare r
 ends_empty r h b xs e = absurd (omega (arith, ap length e, length_push xs b))
@@ -122,6 +103,41 @@ trimmed_bare before r after blanks-b blanks-a bare = record {
 
     at_end : (b : ℕ) (rest : List ℕ) → r ≡ rest ++ (b ∷ []) → AllByRecursion Bare (b ∷ [])
     at_end b rest e = all_right Bare rest (b ∷ []) (subst (AllByRecursion Bare) e bare)
+
+-- from the first byte that is no blank to the last one
+pub trimmed_between : (t : List ℕ) (first last : ℕ) → last < length t → blank (get_or t first 0) ≡ false → blank (get_or t last 0) ≡ false
+    → ((k : ℕ) → k < first → blank (get_or t k 0) ≡ true) → ((k : ℕ) → last < k → k < length t → blank (get_or t k 0) ≡ true)
+    → Trimmed t (take (last + 1 - first) (drop first t))
+trimmed_between t first last within bare-first bare-last front back =
+    let ordered : first ≤ last = ⊎_elim (λ less. absurd (both_ways _ bare-last (front last less))) (λ least. least) (cases_lt last first) in
+    let r = take (last + 1 - first) (drop first t) in
+    let long : length r ≡ last + 1 - first = omega (arith, length-take-le (last + 1 - first) (drop first t), length-drop first t) in
+    let at : (k : ℕ) → k < last + 1 - first → get_or r k 0 ≡ get_or t (first + k) 0 = λ k h. get_or-take (last + 1 - first) (drop first t) k 0 h ∙ get_or-drop first t k 0 in
+    let at-first : get_or r 0 0 ≡ get_or t first 0 = at 0 (omega arith) ∙ ap (λ k. get_or t k 0) (omega arith) in
+    let at-last : get_or r (length r - 1) 0 ≡ get_or t last 0 = at (length r - 1) (omega arith) ∙ ap (λ k. get_or t k 0) (omega arith) in
+    record {
+      before = take first t;
+      after = drop (last + 1) t;
+      whole =
+          sym (take-append-drop first t)
+          ∙ ap (λ xs. take first t ++ xs)
+          (sym (take-append-drop (last + 1 - first) (drop first t)) ∙ ap (λ xs. r ++ xs) (drop-drop (last + 1 - first) first t ∙ ap (λ k. drop k t) (omega arith)));
+      blanks_before = All-from_get_or Blank (take first t) 0 (λ k inside. let below : k < first = omega (arith, length-take-le first t) in subst Blank (sym (get_or-take first t k 0 below)) (front k below));
+      blanks_after = All-from_get_or Blank (drop (last + 1) t) 0 (λ k inside. subst Blank (sym (get_or-drop (last + 1) t k 0)) (back (last + 1 + k) (omega arith) (omega (arith, length-drop (last + 1) t))));
+      begins = λ b rest e. ap blank (sym (ap (λ xs. get_or xs 0 0) e) ∙ at-first) ∙ bare-first;
+      ends = ends_bare r (omega arith) (ap blank at-last ∙ bare-last);
+    }
+
+pub trimmed_nothing : (t : List ℕ) → ((k : ℕ) → k < length t → blank (get_or t k 0) ≡ true) → Trimmed t []
+trimmed_nothing t h = record {
+  before = t;
+  after = [];
+  whole = sym (append-nil t);
+  blanks_before = All-from_get_or Blank t 0 h;
+  blanks_after = tt;
+  begins = λ b rest e. absurd (omega (arith, ap length e));
+  ends = ends_empty [] (omega arith);
+}
 
 -- trimmed at the front and then at the end
 pub trimmed_both : {t s r : List ℕ} → TrimmedStart t s → TrimmedEnd s r → Trimmed t r

@@ -1,5 +1,6 @@
 // Integers: sign and magnitude.
 ghost use Rattle.std.specs.Prelude.{◌≡◌, ◌≤◌, MatchBool};
+ghost use Rattle.scalars.specs.Computed.{integer_in};
 ghost use Rattle.scalars.specs.Signs.{is_minus, unsigned};
 ghost use Rattle.scalars.specs.Spelling.{Number, Plain, Reading};
 
@@ -56,7 +57,8 @@ fn parse_digits(digits: &[u8], radix: u64) -> Option<u64>
 /// The integer that `text` spells, as its sign, `true` for a negative one, and its magnitude. `None` where it spells
 /// none, or one whose magnitude takes more than 64 bits.
 pub fn parse_integer(text: &[u8]) -> Option<(bool, u64)>
-    ensures { Reading text.now result }
+    ensures reading { Reading text.now result }
+    ensures computed { result ≡ integer_in text.now }
 {
     let (minus, rest) = split_sign(yaml_trim(text));
     let (radix, digits) = radix_and_digits(rest);

@@ -1,5 +1,6 @@
 // What a scalar reads as, by its tag and its style as well as its text.
-ghost use Rattle.std.specs.Prelude.{Decides};
+ghost use Rattle.std.specs.Prelude.{◌≡◌, Decides};
+ghost use Rattle.scalars.specs.Computed.{integer_over, null_over};
 ghost use Rattle.scalars.specs.Typed.{NullScalar, TypedReading};
 
 use crate::integer::parse_integer;
@@ -7,26 +8,39 @@ use crate::nulls::scalar_is_nullish;
 use records::record::ScalarStyle;
 use records::tags::SfTag;
 
-/// Whether a scalar is null: by its tag, or by a plain null text under a tag that leaves the text to be read.
-pub fn scalar_is_null(tag: SfTag, text: &[u8], style: ScalarStyle) -> bool
-    ensures { Decides result (NullScalar tag style text.now) }
-{
-    match (tag, style) {
-        (SfTag::Null, _) => true,
-        (SfTag::Binary, _) => false,
-        (_, ScalarStyle::Plain) => {
-            !tag.is_core() && !tag.forces_string() && scalar_is_nullish(text)
-        }
-        _ => false,
-    }
+/// A scalar: its text, its tag and how it was written.
+#[derive(Clone, Copy, PartialEq, Eq, Debug)]
+pub struct Scalar<'t> {
+    pub value: &'t [u8],
+    pub tag: SfTag,
+    pub style: ScalarStyle,
 }
 
-/// The integer that a scalar reads as: one with the tag for integers, or a plain one with no tag.
-pub fn integer_of(tag: SfTag, text: &[u8], style: ScalarStyle) -> Option<(bool, u64)>
-    ensures { TypedReading tag style text.now result }
-{
-    match (tag, style) {
-        (SfTag::Int, _) | (SfTag::None, ScalarStyle::Plain) => parse_integer(text),
-        _ => None,
+impl Scalar<'_> {
+    /// Whether the scalar is null: by its tag, or by a plain null text under a tag that leaves the text to be read.
+    pub fn is_null(self) -> bool
+        ensures decides { Decides result (NullScalar self.entry.tag self.entry.style self.entry.value.now) }
+        ensures computed { result ≡ null_over self.entry.value.now self.entry.tag self.entry.style }
+    {
+        match (self.tag, self.style) {
+            (SfTag::Null, _) => true,
+            (SfTag::Binary, _) => false,
+            (tag, ScalarStyle::Plain) => {
+                !tag.is_core() && !tag.forces_string() && scalar_is_nullish(self.value)
+            }
+            _ => false,
+        }
+    }
+
+    /// The integer that the scalar reads as: one with the tag for integers, or a plain one with no tag.
+    // Sign and magnitude together, as `parse_integer` answers them.
+    pub fn integer(self) -> Option<(bool, u64)>
+        ensures reading { TypedReading self.entry.tag self.entry.style self.entry.value.now result }
+        ensures computed { result ≡ integer_over self.entry.value.now self.entry.tag self.entry.style }
+    {
+        match (self.tag, self.style) {
+            (SfTag::Int, _) | (SfTag::None, ScalarStyle::Plain) => parse_integer(self.value),
+            _ => None,
+        }
     }
 }

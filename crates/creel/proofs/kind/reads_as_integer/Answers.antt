@@ -5,5 +5,6 @@ use Rattle.creel.proofs.kind.reads_as_integer.Goals as goal
 
 pub returns : goal.returns
 returns c =
-    subst (λ (b : Bool). Decides b (ReadsInteger c.args.tag c.args.style c.args.text.now)) (sym c.is_some.ensures)
-    (reading_decides c.args.tag c.args.style c.args.text.now c.integer_of.result c.integer_of.ensures)
+    let s = c.args.scalar in
+    subst (λ (b : Bool). Decides b (ReadsInteger s.tag s.style s.value.now)) (sym c.is_some.ensures)
+    (reading_decides s.tag s.style s.value.now c.integer.result c.integer.ensures.reading)
