@@ -1,8 +1,9 @@
 -- Digits read from the first to the last, and what they spell.
-use Rattle.std.proofs.Common.{◌≡◌, ℕ, ◌+◌, ◌*◌, ◌^◌, ◌<◌, ◌≤◌, Bool, true, false, cond, eqb, ltb, ◌⊎◌, List, [], ◌∷◌, ◌++◌, length, get_or, drop, Some, None, sym, refl, ap, ◌∙◌, subst, inl, inr, append_assoc, append-nil, mul-le-mul_left, zero-add, zero-mul, mul-one, arith}
+use Rattle.std.proofs.Common.{◌≡◌, ℕ, ◌+◌, ◌*◌, ◌^◌, ◌<◌, ◌≤◌, Bool, true, false, cond, eqb, ltb, ◌⊎◌, List, [], ◌∷◌, ◌++◌, length, get_or, drop, None, sym, refl, ap, ◌∙◌, subst, inl, inr, append_assoc, append-nil, mul-le-mul_left, zero-add, zero-mul, mul-one, arith}
 use Rattle.std.proofs.lemmas.List.{at_drop_more, at_drop_all}
 use Rattle.std.proofs.lemmas.Bool.{eqb-true, ltb-true, false≢true}
 use Rattle.std.proofs.lemmas.Bool.Decides.{nat_tests}
+use Rattle.std.specs.Bool.{then_some}
 use Rattle.scalars.specs.Class.{class_of}
 use Rattle.scalars.specs.Running.{State, start, advance, step, run}
 use Rattle.scalars.specs.Running.State.{so_far, lost}
@@ -125,15 +126,12 @@ module _ {radix : ℕ} {ds : List ℕ} {v : ℕ} {last : Bool} {i d : ℕ} (left
       omega (arith, grows radix some (drop (i + 1) ds) (v * radix + d) n true true (e ∙ reads small spelled))
 
 -- the end of the loop
-module _ {radix : ℕ} {ds : List ℕ} {v : ℕ} {last : Bool} {i : ℕ} (left : Left radix ds v last i) (past : length ds ≤ i) where
-  whole_read : so_far v last ≡ run radix start ds
-  whole_read = sym (at_drop_all (run radix (so_far v last)) ds i past) ∙ left.leads
+whole_read : {radix : ℕ} {ds : List ℕ} {v : ℕ} {last : Bool} {i : ℕ} → Left radix ds v last i → length ds ≤ i → so_far v last ≡ run radix start ds
+whole_read {radix} {ds} {v} {last} {i} left past = sym (at_drop_all (run radix (so_far v last)) ds i past) ∙ left.leads
 
-  pub ends_read : last ≡ true → Number radix ds (Some v)
-  ends_read e = (spelled radix ds v (sym whole_read ∙ ap (so_far v) e), left.fits)
-
-  pub ends_open : last ≡ false → radix ≤ 16 → Number radix ds None
-  ends_open e small n spelled fits =
-      let p = whole_read ∙ reads small spelled in
-      let q : false ≡ true = cc in
-      false≢true q
+pub number_read : {radix : ℕ} {ds : List ℕ} {v : ℕ} (last : Bool) {i : ℕ} → Left radix ds v last i → length ds ≤ i → radix ≤ 16 → Number radix ds (then_some last v)
+number_read {radix} {ds} {v} true left past small = (spelled radix ds v (sym (whole_read left past)), left.fits)
+number_read false left past small = λ n spelled fits.
+    let p = whole_read left past ∙ reads small spelled in
+    let q : false ≡ true = cc in
+    false≢true q

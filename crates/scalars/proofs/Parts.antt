@@ -1,18 +1,19 @@
 -- The parts of a spelled integer are those that the code finds.
-use Rattle.std.proofs.Common.{◌≡◌, ℕ, ◌<◌, ◌≤◌, Bool, true, not, ◌&&◌, eqb, List, ◌++◌, get_or, sym, refl, ap, ◌∙◌, subst, arith, lit≤}
-use Rattle.std.specs.List.{AllByRecursion}
-use Rattle.std.proofs.ByRecursion.{All-append, All-weaker}
+use Rattle.std.proofs.Common.{◌≡◌, ℕ, ◌<◌, ◌≤◌, Bool, true, not, ◌&&◌, eqb, List, [], ◌++◌, get_or, codes, All, sym, refl, ap, ◌∙◌, subst, arith, lit≤}
+use Rattle.std.proofs.lemmas.Bool.{not_from_false}
+use Rattle.std.proofs.lemmas.List.Elements.{All-append, All-weaker}
+use Rattle.std.proofs.lemmas.List.Sums.{AllPass-from_list_all}
 use Rattle.scalars.specs.Class.{class_of}
 use Rattle.scalars.specs.Radices.{radix_of, digits_of}
 use Rattle.scalars.specs.Signs.{is_minus, unsigned}
-use Rattle.scalars.specs.Trimmed.{Trimmed}
+use Rattle.scalars.specs.Trimmed.{blank, Trimmed}
 use Rattle.scalars.specs.Spelling.{Sign, Prefix, Digits, Plain, Spells, SpellingUnique}
 use Rattle.scalars.specs.Spelling.Sign.{unsigned as no_sign, plus, minus}
 use Rattle.scalars.specs.Spelling.Prefix.{decimal, small_x, large_x, small_o, large_o, small_b, large_b}
 use Rattle.scalars.proofs.Numbers.{reads}
 use Rattle.scalars.specs.Running.State.{so_far}
 use Rattle.scalars.proofs.Prefixes.{Among, among, first, not_blank, sign_off, prefix_off, sign_of, prefix_of, radix_bounds}
-use Rattle.scalars.proofs.Trimming.{Bare, trimmed_bare, trimmed_unique}
+use Rattle.scalars.proofs.Trimming.{bare, Bare, trimmed_bare, trimmed_unique}
 
 -- what sign, radix and digits say
 pub record Says (minus : Bool) (radix : ℕ) (digits : List ℕ) (negative : Bool) (magnitude : ℕ) : Type 0 where
@@ -34,19 +35,19 @@ prefix_small small_b = lit≤ tt
 prefix_small large_b = lit≤ tt
 
 -- no blank stands in a sign, a prefix or digits
-sign_bare : {s : List ℕ} {m : Bool} → Sign s m → AllByRecursion Bare s
-sign_bare no_sign = tt
-sign_bare plus = (refl, tt)
-sign_bare minus = (refl, tt)
+sign_bare : {s : List ℕ} {m : Bool} → Sign s m → All Bare s
+sign_bare no_sign = AllPass-from_list_all bare [] refl
+sign_bare plus = AllPass-from_list_all bare (codes "+") refl
+sign_bare minus = AllPass-from_list_all bare (codes "-") refl
 
-prefix_bare : {p : List ℕ} {radix : ℕ} → Prefix p radix → AllByRecursion Bare p
-prefix_bare decimal = tt
-prefix_bare small_x = (refl, (refl, tt))
-prefix_bare large_x = (refl, (refl, tt))
-prefix_bare small_o = (refl, (refl, tt))
-prefix_bare large_o = (refl, (refl, tt))
-prefix_bare small_b = (refl, (refl, tt))
-prefix_bare large_b = (refl, (refl, tt))
+prefix_bare : {p : List ℕ} {radix : ℕ} → Prefix p radix → All Bare p
+prefix_bare decimal = AllPass-from_list_all bare [] refl
+prefix_bare small_x = AllPass-from_list_all bare (codes "0x") refl
+prefix_bare large_x = AllPass-from_list_all bare (codes "0X") refl
+prefix_bare small_o = AllPass-from_list_all bare (codes "0o") refl
+prefix_bare large_o = AllPass-from_list_all bare (codes "0O") refl
+prefix_bare small_b = AllPass-from_list_all bare (codes "0b") refl
+prefix_bare large_b = AllPass-from_list_all bare (codes "0B") refl
 
 -- a digit stands behind the sign
 digit_first : {p ds : List ℕ} {radix m : ℕ} → Prefix p radix → Digits radix ds m → class_of (get_or (p ++ ds) 0 0) < 16
@@ -71,7 +72,7 @@ module _ {t : List ℕ} {n : Bool} {m : ℕ} (s : Spells t n m) where
       (trimmed_bare s.before middle s.after s.blanks_before s.blanks_after
       (All-append Bare s.sign (s.prefix ++ s.digits) (sign_bare s.signed)
       (All-append Bare s.prefix s.digits (prefix_bare s.prefixed)
-      (All-weaker (Among s.radix) Bare (λ b. not_blank s.radix b small) s.digits (among s.spelled)))))
+      (All-weaker (Among s.radix) Bare (λ b h. not_from_false (blank b) (not_blank s.radix b small h)) s.digits (among s.spelled)))))
 
   parts_middle : Parts middle n m
   parts_middle =
@@ -106,22 +107,6 @@ from_parts r d p =
       plain = p.plain;
       below_zero = p.below_zero;
     }
-
--- the code's own words for the parts
-module _ {t r u ds : List ℕ} {b : Bool} {radix : ℕ} (d : Trimmed t r) (is-minus : b ≡ is_minus r) (is-rest : u ≡ unsigned r) (is-radix : radix ≡ radix_of u) (is-digits : ds ≡ digits_of u) where
-  pub into_says : {n : Bool} {m : ℕ} → Spells t n m → Says b radix ds n m
-  into_says {n} {m} s =
-      subst (λ x. Says x radix ds n m) (sym is-minus)
-      (subst (λ x. Says (is_minus r) x ds n m) (sym is-radix)
-      (subst (λ x. Says (is_minus r) (radix_of u) x n m) (sym is-digits)
-      (subst (λ x. Says (is_minus r) (radix_of x) (digits_of x) n m) (sym is-rest) (into_parts s r d))))
-
-  pub from_says : {n : Bool} {m : ℕ} → Says b radix ds n m → Spells t n m
-  from_says {n} {m} p =
-      from_parts r d
-      (subst (λ x. Says (is_minus r) (radix_of x) (digits_of x) n m) is-rest
-      (subst (λ x. Says (is_minus r) (radix_of u) x n m) is-digits
-      (subst (λ x. Says (is_minus r) x ds n m) is-radix (subst (λ x. Says x radix ds n m) is-minus p))))
 
 pub so_far_number : (v n : ℕ) (a b : Bool) → so_far v a ≡ so_far n b → v ≡ n
 so_far_number v n a b e = cc

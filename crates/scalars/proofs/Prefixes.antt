@@ -1,7 +1,6 @@
 -- What stands in front of the digits, read byte by byte, and what the grammar puts there.
-use Rattle.std.proofs.Common.{◌≡◌, ℕ, ◌-◌, ◌<◌, ◌≤◌, Bool, true, false, cond, ◌||◌, eqb, ◌⊎◌, List, [], ◌∷◌, ◌++◌, length, get_or, take, drop, sym, refl, ap, ◌∙◌, subst, ap₂, inl, inr, ⊎_elim, arith, lit≤}
-use Rattle.std.specs.List.{AllByRecursion}
-use Rattle.std.proofs.ByRecursion.{All-append}
+use Rattle.std.proofs.Common.{◌≡◌, ℕ, ◌-◌, ◌<◌, ◌≤◌, Bool, true, false, cond, ◌||◌, eqb, ◌⊎◌, List, [], ◌∷◌, ◌++◌, length, get_or, take, drop, All, sym, refl, ap, ◌∙◌, subst, ap₂, inl, inr, ⊎_elim, arith, lit≤}
+use Rattle.std.proofs.lemmas.List.Elements.{All-nil, All-cons, All-append, All-push, All-get_or}
 use Rattle.std.proofs.lemmas.List.{take_rest}
 use Rattle.std.proofs.lemmas.Bool.{cases_eq, cond-false, eqb-true, ne_eqb, or_from}
 use Rattle.std.proofs.lemmas.Bool.Decides.{nat_tests}
@@ -27,10 +26,11 @@ radix_bounds s = (grind (arith, nat_tests), grind (arith, nat_tests))
 abbrev pub Among : ℕ → ℕ → Type 0
 Among radix b = (class_of b < radix) ⊎ (b ≡ 95)
 
-pub among : {radix : ℕ} {ds : List ℕ} {n : ℕ} → Digits radix ds n → AllByRecursion (Among radix) ds
-among {radix} (one b h) = (inl h, tt)
-among {radix} (more {ds} b d h) = All-append (Among radix) ds (b ∷ []) (among d) (inl h, tt)
-among {radix} (apart {ds} b d h) = All-append (Among radix) ds (95 ∷ b ∷ []) (among d) (inr refl, (inl h, tt))
+pub among : {radix : ℕ} {ds : List ℕ} {n : ℕ} → Digits radix ds n → All (Among radix) ds
+among {radix} (one b h) = All-cons (Among radix) b [] (inl h) (All-nil (Among radix))
+among {radix} (more {ds} b d h) = All-push (Among radix) ds b (among d) (inl h)
+among {radix} (apart {ds} b d h) =
+    All-append (Among radix) ds (95 ∷ b ∷ []) (among d) (All-cons (Among radix) 95 (b ∷ []) (inr refl) (All-cons (Among radix) b [] (inl h) (All-nil (Among radix))))
 
 -- the first byte of digits is one
 front : (radix : ℕ) (ds es : List ℕ) → radix ≤ 16 → class_of (get_or ds 0 0) < radix → class_of (get_or (ds ++ es) 0 0) < radix
@@ -70,15 +70,15 @@ not_lettered b (inl h) =
     ∙ cond-false _ _ _ (or_from _ _ (other 10 b 111 h (lit≤ tt)) (other 10 b 79 h (lit≤ tt)))
     ∙ cond-false _ _ _ (or_from _ _ (other 10 b 98 h (lit≤ tt)) (other 10 b 66 h (lit≤ tt)))
 
-second : (ds : List ℕ) → AllByRecursion (Among 10) ds → lettered (get_or ds 1 0) ≡ 10
+second : (ds : List ℕ) → All (Among 10) ds → lettered (get_or ds 1 0) ≡ 10
 second [] h = refl
 second (a ∷ []) h = refl
-second (a ∷ b ∷ ds) (h, (k, ks)) = not_lettered b k
+second (a ∷ b ∷ ds) h = not_lettered b (All-get_or (Among 10) (a ∷ b ∷ ds) 1 0 (omega arith) h)
 
-decimal_radix : (ds : List ℕ) → AllByRecursion (Among 10) ds → radix_of ds ≡ 10
+decimal_radix : (ds : List ℕ) → All (Among 10) ds → radix_of ds ≡ 10
 decimal_radix ds h = let e = second ds h in grind (arith, nat_tests)
 
-pub prefix_off : {p : List ℕ} {radix : ℕ} → Prefix p radix → (ds : List ℕ) → AllByRecursion (Among radix) ds → (radix_of (p ++ ds) ≡ radix) × (digits_of (p ++ ds) ≡ ds)
+pub prefix_off : {p : List ℕ} {radix : ℕ} → Prefix p radix → (ds : List ℕ) → All (Among radix) ds → (radix_of (p ++ ds) ≡ radix) × (digits_of (p ++ ds) ≡ ds)
 prefix_off decimal ds h = (decimal_radix ds h, digits_all ds (decimal_radix ds h))
 prefix_off small_x ds h = (refl, refl)
 prefix_off large_x ds h = (refl, refl)

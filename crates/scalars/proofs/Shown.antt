@@ -1,10 +1,11 @@
 -- The examples: antt reads the digits of each.
 use Rattle.std.proofs.Common.{◌≡◌, ℕ, Bool, true, false, not, ◌&&◌, eqb, List, [], ◌∷◌, ◌++◌, length, get_or, codes, sym, refl, ap, subst, append-nil, arith, lit≤}
-use Rattle.std.specs.List.{AllByRecursion}
+use Rattle.std.specs.List.{list_all}
+use Rattle.std.proofs.lemmas.List.Elements.{All-nil}
+use Rattle.std.proofs.lemmas.List.Sums.{AllPass-from_list_all}
 use Rattle.std.proofs.lemmas.List.{nil_from_length}
-use Rattle.std.proofs.lemmas.Bool.{and_parts, not-true}
 use Rattle.scalars.specs.Examples.{IntegerExamples}
-use Rattle.scalars.specs.Trimmed.{blank, Trimmed}
+use Rattle.scalars.specs.Trimmed.{Trimmed}
 use Rattle.scalars.specs.Spelling.{Sign, Prefix, Plain, Spells}
 use Rattle.scalars.specs.Spelling.Sign.{unsigned as no_sign, minus}
 use Rattle.scalars.specs.Spelling.Prefix.{decimal, small_x}
@@ -12,7 +13,7 @@ use Rattle.scalars.proofs.Numbers.{reads, spelled, apart_states}
 use Rattle.scalars.specs.Running.{run, start}
 use Rattle.scalars.specs.Running.State.{so_far, lost}
 use Rattle.scalars.proofs.Parts.{Parts, into_parts, so_far_number}
-use Rattle.scalars.proofs.Trimming.{Bare, trimmed_bare}
+use Rattle.scalars.proofs.Trimming.{Blank, bare, trimmed_bare}
 
 -- no blanks around, and digits that antt reads
 shown : {sign prefix : List ℕ} {b : Bool} {radix : ℕ} (digits : List ℕ) (n : Bool) (m : ℕ) → Sign sign b → Prefix prefix radix
@@ -26,8 +27,8 @@ shown {sign} {prefix} {b} {radix} digits n m signed prefixed plain e z = record 
   minus = b;
   radix = radix;
   whole = sym (append-nil (sign ++ (prefix ++ digits)));
-  blanks_before = tt;
-  blanks_after = tt;
+  blanks_before = All-nil Blank;
+  blanks_after = All-nil Blank;
   signed = signed;
   prefixed = prefixed;
   spelled = spelled radix digits m e;
@@ -35,19 +36,9 @@ shown {sign} {prefix} {b} {radix} digits n m signed prefixed plain e z = record 
   below_zero = z;
 }
 
-abbrev bare : List ℕ → Bool
-bare [] = true
-bare (b ∷ bs) = not (blank b) && bare bs
-
-all_bare : (t : List ℕ) → bare t ≡ true → AllByRecursion Bare t
-all_bare [] e = tt
-all_bare (b ∷ t) e =
-    let (h, k) = and_parts (not (blank b)) (bare t) e in
-    (not-true (blank b) h, all_bare t k)
-
 -- the parts of a text with no blanks
-parts : (t : List ℕ) {n : Bool} {m : ℕ} → bare t ≡ true → Spells t n m → Parts t n m
-parts t {n} {m} e s = into_parts s t (subst (λ x. Trimmed x t) (append-nil t) (trimmed_bare [] t [] tt tt (all_bare t e)))
+parts : (t : List ℕ) {n : Bool} {m : ℕ} → list_all bare t ≡ true → Spells t n m → Parts t n m
+parts t {n} {m} e s = into_parts s t (subst (λ x. Trimmed x t) (append-nil t) (trimmed_bare [] t [] (All-nil Blank) (All-nil Blank) (AllPass-from_list_all bare t e)))
 
 -- no leading zero: one digit, another first digit, another radix
 plain_alone : (b : ℕ) → Plain 10 (b ∷ [])

@@ -1,108 +1,76 @@
--- Blanks are dropped one by one, and one text only is left at the end.
-use Rattle.std.proofs.Common.{◌≡◌, ℕ, ◌+◌, ◌-◌, ◌<◌, ◌≤◌, Bool, true, false, cond, List, [], ◌∷◌, ◌++◌, length, get_or, take, drop, sym, refl, ap, ◌∙◌, subst, ap₂, append-nil, drop-drop, length-drop, length-take-le, take-append-drop, ⊎_elim, arith}
-use Rattle.std.specs.List.{AllByRecursion}
-use Rattle.std.proofs.ByRecursion.{All-append, All-from_get_or}
+-- Blanks are dropped at both ends of a text, and one text only is left.
+use Rattle.std.proofs.Common.{◌≡◌, ℕ, ◌+◌, ◌-◌, ◌<◌, ◌≤◌, Bool, true, false, cond, not, List, [], ◌∷◌, ◌++◌, length, get_or, take, drop, All, sym, refl, ap, ◌∙◌, subst, append-nil, drop-drop, length-drop, length-take-le, take-append-drop, ⊎_elim, arith}
+use Rattle.std.proofs.lemmas.Bool.{both_ways, cases_lt, cond-true, cond-false, not-true}
+use Rattle.std.proofs.lemmas.Grind.{get_or_at_push}
 use Rattle.std.proofs.lemmas.List.{take_all, take_more, length_push, same_from_push, get_or-take, get_or-drop}
-use Rattle.std.proofs.lemmas.Bool.{both_ways, cases_lt}
-use Rattle.scalars.specs.Trimmed.{blank, Blanks, BeginsBare, EndsBare, TrimmedStart, TrimmedEnd, Trimmed}
+use Rattle.std.proofs.lemmas.List.Elements.{All-nil, All-cons, All-head, All-tail, All-append, All-from_get_or}
+use Rattle.scalars.specs.Trimmed.{blank, Blanks, BeginsBare, EndsBare, Trimmed}
 use Rattle.scalars.specs.Computed.{bare_front, ahead, bare_back}
 
 abbrev pub Blank : ℕ → Type 0
 Blank b = blank b ≡ true
 
+abbrev pub bare : ℕ → Bool
+bare b = not (blank b)
+
 abbrev pub Bare : ℕ → Type 0
-Bare b = blank b ≡ false
+Bare b = bare b ≡ true
 
-last_split : (r : List ℕ) → 0 < length r → r ≡ take (length r - 1) r ++ (get_or r (length r - 1) 0 ∷ [])
-last_split r h = sym (take_all (length r - 1 + 1) r (omega arith)) ∙ take_more r (length r - 1) 0 (omega arith)
-
-pub ends_empty : (r : List ℕ) → length r < 1 → EndsBare r
+ends_empty : (r : List ℕ) → length r < 1 → EndsBare r
 ends_empty r h b xs e = absurd (omega (arith, ap length e, length_push xs b))
 
-pub ends_bare : (r : List ℕ) → 0 < length r → blank (get_or r (length r - 1) 0) ≡ false → EndsBare r
+ends_bare : (r : List ℕ) → 0 < length r → blank (get_or r (length r - 1) 0) ≡ false → EndsBare r
 ends_bare r h f b xs e =
-    let same = same_from_push xs (take (length r - 1) r) b (get_or r (length r - 1) 0) (sym e ∙ last_split r h) in
+    let split : r ≡ take (length r - 1) r ++ (get_or r (length r - 1) 0 ∷ []) =
+    sym (take_all (length r - 1 + 1) r (omega arith)) ∙ take_more r (length r - 1) 0 (omega arith) in
+    let same = same_from_push xs (take (length r - 1) r) b (get_or r (length r - 1) 0) (sym e ∙ split) in
     ap blank same.1 ∙ f
-
-all_left : (P : ℕ → Type 0) (xs ys : List ℕ) → AllByRecursion P (xs ++ ys) → AllByRecursion P xs
-all_left P [] ys h = tt
-all_left P (x ∷ xs) ys (h, hs) = (h, all_left P xs ys hs)
-
-all_right : (P : ℕ → Type 0) (xs ys : List ℕ) → AllByRecursion P (xs ++ ys) → AllByRecursion P ys
-all_right P [] ys h = h
-all_right P (x ∷ xs) ys (h, hs) = all_right P xs ys hs
-
-begins_nil : (r : List ℕ) → Blanks r → BeginsBare r → r ≡ []
-begins_nil [] bs g = refl
-begins_nil (b ∷ r) (h, hs) g = absurd (both_ways (blank b) (g b r refl) h)
-
-ends_nil : (r : List ℕ) → Blanks r → EndsBare r → r ≡ []
-ends_nil [] bs g = refl
-ends_nil (b ∷ r) bs g =
-    let e = last_split (b ∷ r) (omega arith) in
-    let (h, hs) = all_right Blank _ (get_or (b ∷ r) (length (b ∷ r) - 1) 0 ∷ []) (subst Blanks e bs) in
-    absurd (both_ways _ (g _ _ e) h)
-
-cons_tail : (b c : ℕ) (xs ys : List ℕ) → b ∷ xs ≡ c ∷ ys → xs ≡ ys
-cons_tail b c xs ys e = cc
-
-cons_head : (b c : ℕ) (xs ys : List ℕ) → b ∷ xs ≡ c ∷ ys → b ≡ c
-cons_head b c xs ys e = cc
-
--- what stands behind leading blanks is one text, and so is what stands before trailing ones
-one_front : (ws ws' s s' : List ℕ) → Blanks ws → Blanks ws' → BeginsBare s → BeginsBare s' → ws ++ s ≡ ws' ++ s' → s ≡ s'
-one_front [] [] s s' bs bs' g g' e = e
-one_front [] (b ∷ ws') s s' bs (h, hs) g g' e = absurd (both_ways (blank b) (g b (ws' ++ s') e) h)
-one_front (b ∷ ws) [] s s' (h, hs) bs' g g' e = absurd (both_ways (blank b) (g' b (ws ++ s) (sym e)) h)
-one_front (b ∷ ws) (b' ∷ ws') s s' (h, hs) (h', hs') g g' e = one_front ws ws' s s' hs hs' g g' (cons_tail b b' _ _ e)
 
 ends_tail : (b : ℕ) (r : List ℕ) → EndsBare (b ∷ r) → EndsBare r
 ends_tail b r g x xs e = g x (b ∷ xs) (ap (λ ys. b ∷ ys) e)
 
-one_back : (r r' vs vs' : List ℕ) → Blanks vs → Blanks vs' → EndsBare r → EndsBare r' → r ++ vs ≡ r' ++ vs' → r ≡ r'
-one_back [] [] vs vs' bs bs' g g' e = refl
-one_back [] (b ∷ r') vs vs' bs bs' g g' e = sym (ends_nil (b ∷ r') (all_left Blank (b ∷ r') vs' (subst Blanks e bs)) g')
-one_back (b ∷ r) [] vs vs' bs bs' g g' e = ends_nil (b ∷ r) (all_left Blank (b ∷ r) vs (subst Blanks (sym e) bs')) g
-one_back (b ∷ r) (b' ∷ r') vs vs' bs bs' g g' e =
-    ap₂ ◌∷◌ (cons_head b b' _ _ e)
-    (one_back r r' vs vs' bs bs' (ends_tail b r g) (ends_tail b' r' g') (cons_tail b b' _ _ e))
+-- blanks alone leave nothing, and those around a bare text leave that text
+front_blanks : (ws : List ℕ) → Blanks ws → bare_front ws ≡ []
+front_blanks [] h = refl
+front_blanks (w ∷ ws) h = cond-true _ _ _ (All-head Blank w ws h) ∙ front_blanks ws (All-tail Blank w ws h)
+
+back_blanks : (ws : List ℕ) → Blanks ws → bare_back ws ≡ []
+back_blanks [] h = refl
+back_blanks (w ∷ ws) h = ap (ahead w) (back_blanks ws (All-tail Blank w ws h)) ∙ cond-true _ _ _ (All-head Blank w ws h)
+
+front_off : (ws s : List ℕ) → Blanks ws → BeginsBare s → bare_front (ws ++ s) ≡ s
+front_off [] [] h g = refl
+front_off [] (b ∷ s) h g = cond-false _ _ _ (g b s refl)
+front_off (w ∷ ws) s h g = cond-true _ _ _ (All-head Blank w ws h) ∙ front_off ws s (All-tail Blank w ws h) g
+
+back_off : (r vs : List ℕ) → Blanks vs → EndsBare r → bare_back (r ++ vs) ≡ r
+back_off [] vs h g = back_blanks vs h
+back_off (b ∷ []) vs h g = ap (ahead b) (back_blanks vs h) ∙ cond-false _ _ _ (g b [] refl)
+back_off (b ∷ c ∷ r) vs h g = ap (ahead b) (back_off (c ∷ r) vs h (ends_tail b (c ∷ r) g))
 
 begins_more : (b : ℕ) (r vs : List ℕ) → BeginsBare (b ∷ r) → BeginsBare (b ∷ (r ++ vs))
-begins_more b r vs g x xs e = ap blank (sym (cons_head b x _ _ e)) ∙ g b r refl
+begins_more b r vs g x xs e = let same : b ≡ x = cc in ap blank (sym same) ∙ g b r refl
 
--- a text of blanks alone leaves nothing
-from_blanks : {t r : List ℕ} → Trimmed t r → Blanks t → r ≡ []
-from_blanks {t} {r} d bs =
-    begins_nil r (all_left Blank r d.after (all_right Blank d.before _ (subst Blanks d.whole bs))) d.begins
-
-all_blank : {t : List ℕ} → Trimmed t [] → Blanks t
-all_blank d = subst Blanks (sym d.whole) (All-append Blank d.before d.after d.blanks_before d.blanks_after)
+trimmed_is : {t : List ℕ} (r : List ℕ) → Trimmed t r → bare_back (bare_front t) ≡ r
+trimmed_is [] d = ap bare_back (ap bare_front d.whole ∙ front_blanks _ (All-append Blank d.before d.after d.blanks_before d.blanks_after))
+trimmed_is (b ∷ r) d =
+    ap bare_back (ap bare_front d.whole ∙ front_off d.before _ d.blanks_before (begins_more b r d.after d.begins))
+    ∙ back_off (b ∷ r) d.after d.blanks_after d.ends
 
 pub trimmed_unique : {t : List ℕ} (r r' : List ℕ) → Trimmed t r → Trimmed t r' → r ≡ r'
-trimmed_unique [] r' d d' = sym (from_blanks d' (all_blank d))
-trimmed_unique (b ∷ r) [] d d' = from_blanks d (all_blank d')
-trimmed_unique (b ∷ r) (b' ∷ r') d d' =
-    one_back (b ∷ r) (b' ∷ r') d.after d'.after d.blanks_after d'.blanks_after d.ends d'.ends
-    (one_front d.before d'.before _ _ d.blanks_before d'.blanks_before (begins_more b r d.after d.begins) (begins_more b' r' d'.after d'.begins)
-    (sym d.whole ∙ d'.whole))
+trimmed_unique r r' d d' = sym (trimmed_is r d) ∙ trimmed_is r' d'
 
 -- a text with no blank in it is trimmed, whatever blanks stand around it
-pub trimmed_bare : (before r after : List ℕ) → Blanks before → Blanks after → AllByRecursion Bare r → Trimmed (before ++ (r ++ after)) r
-trimmed_bare before r after blanks-b blanks-a bare = record {
+pub trimmed_bare : (before r after : List ℕ) → Blanks before → Blanks after → All Bare r → Trimmed (before ++ (r ++ after)) r
+trimmed_bare before r after blanks-b blanks-a h = record {
   before = before;
   after = after;
   whole = refl;
   blanks_before = blanks-b;
   blanks_after = blanks-a;
-  begins = λ b rest e. let (h, hs) = at_front b rest e in h;
-  ends = λ b rest e. let (h, hs) = at_end b rest e in h;
+  begins = λ b rest e. not-true (blank b) (All-head Bare b rest (subst (All Bare) e h));
+  ends = λ b rest e. not-true (blank b) (subst Bare (get_or_at_push rest b).1 (subst (All Bare) e h (length rest) b (omega (arith, length_push rest b))));
 }
-  where
-    at_front : (b : ℕ) (rest : List ℕ) → r ≡ b ∷ rest → AllByRecursion Bare (b ∷ rest)
-    at_front b rest e = subst (AllByRecursion Bare) e bare
-
-    at_end : (b : ℕ) (rest : List ℕ) → r ≡ rest ++ (b ∷ []) → AllByRecursion Bare (b ∷ [])
-    at_end b rest e = all_right Bare rest (b ∷ []) (subst (AllByRecursion Bare) e bare)
 
 -- from the first byte that is no blank to the last one
 pub trimmed_between : (t : List ℕ) (first last : ℕ) → last < length t → blank (get_or t first 0) ≡ false → blank (get_or t last 0) ≡ false
@@ -134,42 +102,42 @@ trimmed_nothing t h = record {
   after = [];
   whole = sym (append-nil t);
   blanks_before = All-from_get_or Blank t 0 h;
-  blanks_after = tt;
+  blanks_after = All-nil Blank;
   begins = λ b rest e. absurd (omega (arith, ap length e));
   ends = ends_empty [] (omega arith);
 }
 
--- trimmed at the front and then at the end
-pub trimmed_both : {t s r : List ℕ} → TrimmedStart t s → TrimmedEnd s r → Trimmed t r
-trimmed_both front back = record {
-  before = front.before;
-  after = back.after;
-  whole = front.whole ∙ ap (λ r. front.before ++ r) back.whole;
-  blanks_before = front.blanks;
-  blanks_after = back.blanks;
-  begins = λ b r e. front.begins b (r ++ back.after) (back.whole ∙ ap (λ x. x ++ back.after) e);
-  ends = back.ends;
-}
+-- trimmed at the front and then at the end, by computing
+record TrimmedStart (text r : List ℕ) : Type 0 where
+  pub before : List ℕ
+  pub whole : text ≡ before ++ r
+  pub blanks : Blanks before
+  pub begins : BeginsBare r
 
--- the same, computed
+record TrimmedEnd (text r : List ℕ) : Type 0 where
+  pub after : List ℕ
+  pub whole : text ≡ r ++ after
+  pub blanks : Blanks after
+  pub ends : EndsBare r
+
 front_computed : (t : List ℕ) → TrimmedStart t (bare_front t)
-front_computed [] = record { before = []; whole = refl; blanks = tt; begins = λ b rest e. absurd (omega (arith, ap length e)) }
+front_computed [] = record { before = []; whole = refl; blanks = All-nil Blank; begins = λ b rest e. absurd (omega (arith, ap length e)) }
 front_computed (b ∷ bs) = go (blank b) refl (front_computed bs)
   where
     go : (t : Bool) → blank b ≡ t → TrimmedStart bs (bare_front bs) → TrimmedStart (b ∷ bs) (cond t (bare_front bs) (b ∷ bs))
-    go true e d = record { before = b ∷ d.before; whole = ap (λ xs. b ∷ xs) d.whole; blanks = (e, d.blanks); begins = d.begins }
-    go false e d = record { before = []; whole = refl; blanks = tt; begins = λ c rest p. ap blank (sym (cons_head b c _ _ p)) ∙ e }
+    go true e d = record { before = b ∷ d.before; whole = ap (λ xs. b ∷ xs) d.whole; blanks = All-cons Blank b d.before e d.blanks; begins = d.begins }
+    go false e d = record { before = []; whole = refl; blanks = All-nil Blank; begins = λ c rest p. let same : b ≡ c = cc in ap blank (sym same) ∙ e }
 
 ends_more : (b c : ℕ) (r : List ℕ) → EndsBare (c ∷ r) → EndsBare (b ∷ c ∷ r)
 ends_more b c r g x [] e = absurd (omega (arith, ap length e))
-ends_more b c r g x (y ∷ ys) e = g x ys (cons_tail b y _ _ e)
+ends_more b c r g x (y ∷ ys) e = g x ys (cc)
 
 back_computed : (t : List ℕ) → TrimmedEnd t (bare_back t)
-back_computed [] = record { after = []; whole = refl; blanks = tt; ends = ends_empty [] (omega arith) }
+back_computed [] = record { after = []; whole = refl; blanks = All-nil Blank; ends = ends_empty [] (omega arith) }
 back_computed (b ∷ bs) = go (bare_back bs) (back_computed bs)
   where
     alone : (t : Bool) → blank b ≡ t → TrimmedEnd bs [] → TrimmedEnd (b ∷ bs) (cond t [] (b ∷ []))
-    alone true e d = record { after = b ∷ bs; whole = refl; blanks = (e, subst Blanks (sym d.whole) d.blanks); ends = ends_empty [] (omega arith) }
+    alone true e d = record { after = b ∷ bs; whole = refl; blanks = All-cons Blank b bs e (subst Blanks (sym d.whole) d.blanks); ends = ends_empty [] (omega arith) }
     alone false e d = record { after = d.after; whole = ap (λ xs. b ∷ xs) d.whole; blanks = d.blanks; ends = ends_bare (b ∷ []) (omega arith) e }
 
     go : (r : List ℕ) → TrimmedEnd bs r → TrimmedEnd (b ∷ bs) (ahead b r)
@@ -177,4 +145,15 @@ back_computed (b ∷ bs) = go (bare_back bs) (back_computed bs)
     go (c ∷ cs) d = record { after = d.after; whole = ap (λ xs. b ∷ xs) d.whole; blanks = d.blanks; ends = ends_more b c cs d.ends }
 
 pub trimmed_computed : (t : List ℕ) → Trimmed t (bare_back (bare_front t))
-trimmed_computed t = trimmed_both (front_computed t) (back_computed (bare_front t))
+trimmed_computed t =
+    let front = front_computed t in
+    let back = back_computed (bare_front t) in
+    record {
+      before = front.before;
+      after = back.after;
+      whole = front.whole ∙ ap (λ r. front.before ++ r) back.whole;
+      blanks_before = front.blanks;
+      blanks_after = back.blanks;
+      begins = λ b r e. front.begins b (r ++ back.after) (back.whole ∙ ap (λ x. x ++ back.after) e);
+      ends = back.ends;
+    }

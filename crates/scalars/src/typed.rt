@@ -32,8 +32,8 @@ impl Scalar<'_> {
         }
     }
 
+    // The project fixed the answer's form, sign and magnitude together.
     /// The integer that the scalar reads as: one with the tag for integers, or a plain one with no tag.
-    // Sign and magnitude together, as `parse_integer` answers them.
     pub fn integer(self) -> Option<(bool, u64)>
         ensures reading { TypedReading self.entry.tag self.entry.style self.entry.value.now result }
         ensures computed { result ≡ integer_over self.entry.value.now self.entry.tag self.entry.style }

@@ -2,7 +2,7 @@
 use Rattle.std.proofs.Common.{sym, ◌∙◌, subst, ap₂, arith}
 use Rattle.std.proofs.lemmas.Bool.Decides.{nat_tests}
 use Rattle.scalars.specs.Spelling.{Number}
-use Rattle.scalars.proofs.Numbers.{advance_digit, goes_on, refuses, overflows, ends_read, ends_open}
+use Rattle.scalars.proofs.Numbers.{advance_digit, goes_on, refuses, overflows, number_read}
 use Rattle.scalars.specs.Running.State.{so_far}
 use Rattle.scalars.proofs.integer.parse_digits.Goals as goal
 use Rattle.scalars.proofs.integer.parse_digits.Goals.{then-class-eq-UNDERSCORE+else-not-after_digit, else-class-eq-UNDERSCORE+else-digit-radix+in_ok-checked_mul+in_ok-value}
@@ -39,8 +39,7 @@ loop-b-preserved c =
           (omega (arith, w.in_ok-value.ensures))
     ]
 
-pub returns-then-after_digit : goal.returns-then-after_digit
-returns-then-after_digit c = ends_read c.loop-b.invariant c.loop-b-test.false c.if-after_digit.true
-
-pub returns-else-after_digit : goal.returns-else-after_digit
-returns-else-after_digit c = ends_open c.loop-b.invariant c.loop-b-test.false c.if-after_digit.false (omega arith)
+pub returns : goal.returns
+returns c =
+    subst (Number c.args.radix c.args.digits.now) (sym c.then_some.ensures)
+    (number_read c.loop-b.after_digit c.loop-b.invariant c.loop-b-test.false (omega arith))
