@@ -1,10 +1,9 @@
 -- What is computed of a text is what it says.
-use Rattle.std.proofs.Common.{◌≡◌, ℕ, ◌^◌, ◌<◌, ◌≤◌, Bool, true, false, cond, not, ◌&&◌, eqb, ltb, ◌↔◌, List, [], map, Some, None, codes, Option, sym, refl, ◌∙◌, subst, arith}
-use Rattle.std.specs.Char.{to_ascii_lowercase}
+use Rattle.std.proofs.Common.{◌≡◌, ℕ, ◌^◌, ◌<◌, ◌≤◌, Bool, true, false, cond, not, ◌&&◌, eqb, ltb, ◌↔◌, List, Some, None, Option, sym, refl, ◌∙◌, subst, arith}
 use Rattle.std.proofs.lemmas.Bool.{ltb-true, ltb-false, false≢true}
-use Rattle.std.proofs.lemmas.Bool.Decides.{nat_tests, Decides-or}
+use Rattle.std.proofs.lemmas.Bool.Decides.{nat_tests}
 use Rattle.std.proofs.lemmas.Slice.Eq.{bytes_eq-Decides}
-use Rattle.scalars.specs.Computed.{equal_bytes, zero_leads, signed, integer_by, integer_bare, integer_in, bare_front, bare_back, IntegersComputed, NullsComputed}
+use Rattle.scalars.specs.Computed.{equal_bytes, zero_leads, signed, integer_by, integer_bare, integer_in, bare_front, bare_back, IntegersComputed}
 use Rattle.scalars.specs.Radices.{radix_of, digits_of}
 use Rattle.scalars.specs.Running.{State, start, run}
 use Rattle.scalars.specs.Running.State.{so_far, lost}
@@ -19,10 +18,6 @@ use Rattle.scalars.proofs.Trimming.{trimmed_computed}
 -- texts of the same bytes
 pub same_bytes : (a b : List ℕ) → (equal_bytes a b ≡ true) ↔ (a ≡ b)
 same_bytes = bytes_eq-Decides
-
-pub nulls_computed : NullsComputed
-nulls_computed text =
-    Decides-or _ _ (same_bytes text []) (Decides-or _ _ (same_bytes text (codes "~")) (same_bytes (map to_ascii_lowercase text) (codes "null")))
 
 -- what sign, radix and digits say, within 64 bits
 abbrev pub Told : Bool → ℕ → List ℕ → Option (Bool × ℕ) → Type 0

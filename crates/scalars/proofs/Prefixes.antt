@@ -1,7 +1,6 @@
 -- What stands in front of the digits, read byte by byte, and what the grammar puts there.
-use Rattle.std.proofs.Common.{◌≡◌, ℕ, ◌-◌, ◌<◌, ◌≤◌, Bool, true, false, cond, ◌||◌, eqb, ◌⊎◌, List, [], ◌∷◌, ◌++◌, length, get_or, take, drop, All, sym, refl, ap, ◌∙◌, subst, ap₂, inl, inr, ⊎_elim, arith, lit≤}
+use Rattle.std.proofs.Common.{◌≡◌, ℕ, ◌<◌, ◌≤◌, Bool, true, false, cond, ◌||◌, eqb, ◌⊎◌, List, [], ◌∷◌, ◌++◌, length, get_or, drop, All, sym, refl, ap, ◌∙◌, subst, ap₂, inl, inr, ⊎_elim, arith, lit≤}
 use Rattle.std.proofs.lemmas.List.Elements.{All-nil, All-cons, All-append, All-push, All-get_or}
-use Rattle.std.proofs.lemmas.List.{take_rest}
 use Rattle.std.proofs.lemmas.Bool.{cases_eq, cond-false, eqb-true, ne_eqb, or_from}
 use Rattle.std.proofs.lemmas.Bool.Decides.{nat_tests}
 use Rattle.scalars.specs.Class.{class_of}
@@ -12,9 +11,6 @@ use Rattle.scalars.specs.Spelling.{Sign, Prefix, Digits, Plain}
 use Rattle.scalars.specs.Spelling.Sign.{unsigned as no_sign, plus, minus}
 use Rattle.scalars.specs.Spelling.Prefix.{decimal, small_x, large_x, small_o, large_o, small_b, large_b}
 use Rattle.scalars.specs.Spelling.Digits.{one, more, apart}
-
-pub digits_behind : (s : List ℕ) → (radix_of s ≡ 10 → ⊥) → take (length s - 2) (drop 2 s) ≡ digits_of s
-digits_behind s h = take_rest s 2 ∙ grind (arith, nat_tests)
 
 pub digits_all : (s : List ℕ) → radix_of s ≡ 10 → digits_of s ≡ s
 digits_all s h = grind (arith, nat_tests)
