@@ -1,3 +1,4 @@
+-- Whether the reading answers an integer decides whether the scalar reads as one.
 use Rattle.std.proofs.Common.{Bool, Decides, sym, subst}
 use Rattle.creel.specs.Kinds.{ReadsInteger}
 use Rattle.creel.proofs.Readings.{reading_decides}
