@@ -1,8 +1,8 @@
 pub mod Leading
+pub mod Listings
 pub mod Numbers
 pub mod Parsing
 pub mod Records
-pub mod Sequences
 pub mod Shown
 pub mod Solidity
 pub mod Spacing

@@ -1,10 +1,10 @@
 -- Reading parts one after another, and parts that begin with a word of their own.
-use Rattle.std.proofs.Common.{◌≡◌, ℕ, true, List, [], ◌∷◌, ◌++◌, is_err, Ok, Err, Result, sym, ap, ◌∙◌, subst}
+use Rattle.std.proofs.Common.{◌≡◌, ℕ, List, [], ◌∷◌, ◌++◌, IsErr, Ok, Err, Result, sym, ap, ◌∙◌, subst}
 use Rattle.std.proofs.lemmas.Bool.{false≢true}
 use Rattle.tape_file.specs.Reading.{Means, Whole, Lacks, Parses}
 
 -- where a `?` leaves with an error, nothing was to be read
-pub exit : {X E : Type 0} (words : X → List (List ℕ)) (Fits : X → Type 0) (ws rest : List (List ℕ)) (r : Result X E) → is_err r ≡ true → Lacks words Fits ws → Parses words Fits ws r rest
+pub exit : {X E : Type 0} (words : X → List (List ℕ)) (Fits : X → Type 0) (ws rest : List (List ℕ)) (r : Result X E) → IsErr r → Lacks words Fits ws → Parses words Fits ws r rest
 exit words Fits ws rest (Ok x) h k = absurd (false≢true h)
 exit words Fits ws rest (Err e) h k = k
 
@@ -32,8 +32,9 @@ module _ {X B : Type 0} {words : X → List (List ℕ)} {Fits : X → Type 0} {l
       let q : lead ∷ ws ≡ (lead ∷ body p.0) ++ s = sym (e ∙ ap (λ (w : List ℕ). w ∷ ws) is) ∙ k ∙ ap (λ (x : X). words x ++ s) (sym p.1) ∙ ap (λ (x : List (List ℕ)). x ++ s) o in
       (p.0, p.1, l.fits p.0 (subst Fits (sym p.1) h), cc)
 
-  pub led_lacks : Lacks body FitsB ws → Lacks words Fits ws₀
-  led_lacks k = record { none = λ y s h f. let p = inner y s h f in k.none p.0 s p.2 p.3 }
+  -- where a `?` leaves with an error after the word `lead`
+  pub led_exit : {E : Type 0} (r : Result X E) (rest : List (List ℕ)) → IsErr r → Lacks body FitsB ws → Parses words Fits ws₀ r rest
+  led_exit r rest h k = exit words Fits ws₀ rest r h (record { none = λ y s f g. let p = inner y s f g in k.none p.0 s p.2 p.3 })
 
   pub led_whole : (b : B) (rest : List (List ℕ)) → Whole body FitsB ws b rest → Whole words Fits ws₀ (mk b) rest
   led_whole b rest w = record {

@@ -34,7 +34,7 @@ record_shown r =
     ∙ ap (λ (l : List ℕ). spaced (location_words r.location) ++ (32 ∷ l)) (spaced_append (origin_words r.origin) (event_words r.event) (origin_some r.origin) (event_some r.event)))
 
 -- u is the word for the style
-pub scalar_shown : (h : Head) (s : ScalarStyle) (v : Place) (u : List ℕ) (e : Event) → u ≡ style_word s → e ≡ Scalar h.0 h.1 h.2 s v
+pub scalar_shown : (h : Head) (s : ScalarStyle) (v : Place) (u : List ℕ) (e : Event) → u ≡ style_word s → e ≡ Scalar h.anchor h.tag h.raw_tag s v
     → codes "scalar " ++ (spaced (head_words h) ++ (32 ∷ (u ++ (32 ∷ spaced (place_words v))))) ≡ spaced (event_words e)
 scalar_shown h s v u e p q =
     (λ i. codes "scalar " ++ (spaced (head_words h) ++ (32 ∷ (p i ++ (32 ∷ spaced (place_words v))))))

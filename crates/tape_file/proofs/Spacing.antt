@@ -1,81 +1,78 @@
 -- Lines and their words: joining words, and cutting a line into them.
-use Rattle.std.proofs.Common.{◌≡◌, ℕ, suc, ◌<◌, Bool, true, false, cond, not, ◌&&◌, eqb, List, [], ◌∷◌, ◌++◌, length, get_or, sym, refl, ap, ◌∙◌, inl, inr, append_assoc, arith, rules}
-use Rattle.std.proofs.lemmas.Bool.{ne_eqb, eqb-true, and_parts, cases_Bool, not-true}
-use Rattle.tape_file.specs.Spaces.{spaced, onward, lengthened, split}
+use Rattle.std.proofs.Common.{◌≡◌, ℕ, ◌<◌, Bool, true, false, cond, not, eqb, List, [], ◌∷◌, ◌++◌, length, get_or, take, drop, take-append-drop, Some, None, MatchOption, Option, Bor, sym, refl, ap, ◌∙◌, subst, append_assoc, arith, rules, lit<}
+use Rattle.std.proofs.lemmas.Bool.{ne_eqb, not-true}
+use Rattle.std.proofs.lemmas.List.Elements.{All-from_get_or}
+use Rattle.std.proofs.lemmas.List.Splits.{slice_split_at, slice_split_none, join_with_byte-slice_split}
+use Rattle.std.proofs.lemmas.List.Sums.{AllPass-from_list_all}
+use Rattle.std.proofs.lemmas.Str.Pattern.{NoCharPasses-char, drop_at_char}
+use Rattle.std.specs.Iterator.{YieldsFirstRef, MakesProgress, item_count}
+use Rattle.std.specs.Bool.{⊤}
+use Rattle.std.specs.List.{All, AllByRecursion, list_all}
+use Rattle.std.specs.Str.Iter.{split_pattern, split_steps, split_text, split_has_more}
+use Rattle.std.specs.Str.Pattern.{FindsChar, IsSplitAtFirstMatch}
+use Rattle.std.specs.declared.str.Split.{Split}
+use Rattle.tape_file.specs.Reading.{left}
+use Rattle.tape_file.specs.Spaces.{spaced, split}
 
 pub spaced_append : (vs ws : List (List ℕ)) → 0 < length vs → 0 < length ws → spaced (vs ++ ws) ≡ spaced vs ++ (32 ∷ spaced ws)
 spaced_append [] ws h k = absurd (omega arith)
 spaced_append (v ∷ []) [] h k = absurd (omega arith)
 spaced_append (v ∷ []) (w ∷ ws) h k = refl
-spaced_append (v ∷ (u ∷ vs)) ws h k = ap (λ (l : List ℕ). v ++ (32 ∷ l)) (spaced_append (u ∷ vs) ws (search rules) k) ∙ sym (append_assoc v (32 ∷ onward u vs) (32 ∷ spaced ws))
+spaced_append (v ∷ (u ∷ vs)) ws h k = ap (λ (l : List ℕ). v ++ (32 ∷ l)) (spaced_append (u ∷ vs) ws (search rules) k) ∙ sym (append_assoc v (32 ∷ spaced (u ∷ vs)) (32 ∷ spaced ws))
 
 -- a word has no blank
-abbrev pub solid : List ℕ → Bool
-solid [] = true
-solid (c ∷ cs) = not (eqb c 32) && solid cs
+abbrev pub Solid : List ℕ → Type 0
+Solid w = All (λ b. eqb b 32 ≡ false) w
 
-pub solid_from_reads : (w : List ℕ) → ((i : ℕ) → i < length w → get_or w i 0 ≡ 32 → ⊥) → solid w ≡ true
-solid_from_reads [] h = refl
-solid_from_reads (c ∷ cs) h =
-    let apart : c ≡ 32 → ⊥ = h 0 (search rules) in
-    rw (ne_eqb c 32 apart) (solid_from_reads cs (λ i k. h (suc i) (search rules)))
+pub solid_text : (w : List ℕ) → list_all (λ b. not (eqb b 32)) w ≡ true → Solid w
+solid_text w h k d l = not-true (eqb (get_or w k d) 32) (AllPass-from_list_all (λ b. not (eqb b 32)) w h k d l)
 
-cut_apart : (c : ℕ) (cs : List ℕ) → solid (c ∷ cs) ≡ true → eqb c 32 ≡ false
-cut_apart c cs h = not-true (eqb c 32) (and_parts (not (eqb c 32)) (solid cs) h).0
+pub solid_from_reads : (w : List ℕ) → ((i : ℕ) → i < length w → get_or w i 0 ≡ 32 → ⊥) → Solid w
+solid_from_reads w h = All-from_get_or (λ b. eqb b 32 ≡ false) w 0 (λ i k. ne_eqb (get_or w i 0) 32 (h i k))
 
 -- the first word, before a blank
-pub split_first : (w s : List ℕ) → solid w ≡ true → split (w ++ (32 ∷ s)) ≡ w ∷ split s
+pub split_first : (w s : List ℕ) → Solid w → split (w ++ (32 ∷ s)) ≡ w ∷ split s
 unfolding split
-split_first [] s h = refl
-split_first (c ∷ cs) s h =
-    rw (cut_apart c cs h) (ap (lengthened c) (split_first cs s (and_parts (not (eqb c 32)) (solid cs) h).1))
+split_first w s h = slice_split_at (λ b. eqb b 32) w 32 s h refl
 
 -- the last word
-pub split_last : (w : List ℕ) → solid w ≡ true → split w ≡ w ∷ []
+pub split_last : (w : List ℕ) → Solid w → split w ≡ w ∷ []
 unfolding split
-split_last [] h = refl
-split_last (c ∷ cs) h =
-    rw (cut_apart c cs h) (ap (lengthened c) (split_last cs (and_parts (not (eqb c 32)) (solid cs) h).1))
+split_last w h = slice_split_none (λ b. eqb b 32) w h
 
-abbrev pub Solid : List (List ℕ) → Type 0
-Solid [] = Unit {0}
-Solid (w ∷ ws) = (solid w ≡ true) × Solid ws
-
-pub solid_append : (vs ws : List (List ℕ)) → Solid vs → Solid ws → Solid (vs ++ ws)
+pub solid_append : (vs ws : List (List ℕ)) → AllByRecursion Solid vs → AllByRecursion Solid ws → AllByRecursion Solid (vs ++ ws)
 solid_append [] ws h k = k
 solid_append (v ∷ vs) ws h k = (h.0, solid_append vs ws h.1 k)
 
-pub split_spaced : (ws : List (List ℕ)) → 0 < length ws → Solid ws → split (spaced ws) ≡ ws
+pub split_spaced : (ws : List (List ℕ)) → 0 < length ws → AllByRecursion Solid ws → split (spaced ws) ≡ ws
 split_spaced [] h k = absurd (omega arith)
 split_spaced (w ∷ []) h k = split_last w k.0
-split_spaced (w ∷ (v ∷ vs)) h k = split_first w (onward v vs) k.0 ∙ ap (λ (l : List (List ℕ)). w ∷ l) (split_spaced (v ∷ vs) (search rules) k.1)
-
-spaced_lengthened : (c : ℕ) (ws : List (List ℕ)) → spaced (lengthened c ws) ≡ c ∷ spaced ws
-spaced_lengthened c [] = refl
-spaced_lengthened c (w ∷ []) = refl
-spaced_lengthened c (w ∷ (v ∷ vs)) = refl
-
-pub split_some : (s : List ℕ) → 0 < length (split s)
-unfolding split
-split_some [] = search rules
-split_some (c ∷ cs) = elim (eqb c 32) as (λ b. 0 < length (cond b ([] ∷ split cs) (lengthened c (split cs)))) [ true ↦ search rules | false ↦ longer (split cs) ]
-  where
-    longer : (ws : List (List ℕ)) → 0 < length (lengthened c ws)
-    longer [] = search rules
-    longer (w ∷ ws) = search rules
-
-cut_spaced : (ws : List (List ℕ)) → 0 < length ws → spaced ([] ∷ ws) ≡ 32 ∷ spaced ws
-cut_spaced [] h = absurd (omega arith)
-cut_spaced (w ∷ ws) h = refl
+split_spaced (w ∷ (v ∷ vs)) h k = split_first w (spaced (v ∷ vs)) k.0 ∙ ap (λ (l : List (List ℕ)). w ∷ l) (split_spaced (v ∷ vs) (search rules) k.1)
 
 pub spaced_split : (s : List ℕ) → spaced (split s) ≡ s
 unfolding split
-spaced_split [] = refl
-spaced_split (c ∷ cs) = elim (cases_Bool (eqb c 32)) [
-  | inl e ↦ rw e (cut_spaced (split cs) (split_some cs) ∙ (λ i. sym (eqb-true c 32 e) i ∷ spaced_split cs i))
-  | inr e ↦ rw e (spaced_lengthened c (split cs) ∙ ap (λ (l : List ℕ). c ∷ l) (spaced_split cs))
-]
+spaced_split s = join_with_byte-slice_split 32 s
 
--- what `split_once` finds is the first word, and where it finds none, one word is left
-pub split_once_some : (bs a b : List ℕ) → bs ≡ a ++ (32 ∷ b) → ((i : ℕ) → i < length a → get_or a i 0 ≡ 32 → ⊥) → split bs ≡ a ∷ split b
-split_once_some bs a b e h = ap split e ∙ split_first a b (solid_from_reads a h)
+-- what `split` gives first, where it looks for the first blank: the text before the blank, or all of it
+part : (line x rest : List ℕ) (more : Bool) (o : Option (ℕ × ℕ)) → FindsChar 32 line o → MatchOption o ((x ≡ line) × (more ≡ false)) (λ q. 0 < q.1 → (x ≡ take q.0 line) × (more ≡ true) × (rest ≡ drop q.1 line)) → split line ≡ x ∷ cond more (split rest) []
+part line x rest more None f m =
+    split_last line (solid_from_reads line (λ i k. NoCharPasses-char 32 line i f (lit< tt) k)) ∙ (λ i. sym m.0 i ∷ cond (sym m.1 i) (split rest) [])
+part line x rest more (Some q) f m =
+    let n = m (omega (arith, f.1.ends)) in
+    let past : drop q.0 line ≡ 32 ∷ drop q.1 line = drop_at_char 32 line q.0 q.1 f.1 (lit< tt) in
+    let cut : line ≡ take q.0 line ++ (32 ∷ drop q.1 line) = sym (take-append-drop q.0 line) ∙ ap (λ (l : List ℕ). take q.0 line ++ l) past in
+    ap split cut ∙ split_first (take q.0 line) (drop q.1 line) (solid_from_reads (take q.0 line) (λ i k. NoCharPasses-char 32 (take q.0 line) i f.0 (lit< tt) k)) ∙ (λ i. sym n.0 i ∷ cond (sym n.1 i) (split (sym n.2 i)) [])
+
+-- a step of `split` takes the first of the words that are left
+pub word_comes : (s t : Split ℕ) (ws : List (List ℕ)) (r : Option (Bor (List ℕ))) → left s ≡ ws → split_pattern s ≡ 32 → split_steps FindsChar (λ c d. d ≡ c) s r t → YieldsFirstRef (λ (l : List (List ℕ)). l) ws r (left t)
+word_comes s t ws None w p h =
+    let none : left s ≡ [] = ap (λ b. cond b (split (split_text s)) []) (sym h.0) in
+    (sym w ∙ none, ap left h.1 ∙ none)
+word_comes s t ws (Some x) w p h =
+    let cut = subst (λ c. IsSplitAtFirstMatch (FindsChar c) (split_text s) x.now (split_has_more t) (split_text t)) p h.1.1 in
+    sym w ∙ ap (λ b. cond b (split (split_text s)) []) (sym h.0) ∙ part (split_text s) x.now (split_text t) (split_has_more t) cut.1.0 cut.1.1 cut.1.2
+
+-- such a step leaves fewer words than there were
+pub moves_on : (ws vs : List (List ℕ)) (r : Option (Bor (List ℕ))) → YieldsFirstRef (λ (l : List (List ℕ)). l) ws r vs → MakesProgress (λ _. ⊤) (item_count (λ (l : List (List ℕ)). l)) ws r vs
+moves_on ws vs None h = record { on = λ f. tt; keeps = tt; rests = λ f. search rules }
+moves_on ws vs (Some x) h = record { on = λ f. (tt, search rules, omega (arith, ap length h)); keeps = tt; rests = λ f. tt }

@@ -4,7 +4,7 @@ use Rattle.tape_file.specs.Lines.{node_words, Small, SmallRaw}
 use Rattle.tape_file.specs.declared.head.Head.{Head}
 
 abbrev pub head_words : Head → List (List ℕ)
-head_words h = node_words h.0 h.1 h.2
+head_words h = node_words h.anchor h.tag h.raw_tag
 
 abbrev pub SmallHead : Head → Type 0
-SmallHead h = Small h.0 × SmallRaw h.2
+SmallHead h = Small h.anchor × SmallRaw h.raw_tag

@@ -2,3 +2,4 @@ pub mod Heads
 pub mod Lines
 pub mod Reading
 pub mod Spaces
+pub mod Tables

@@ -1,4 +1,5 @@
 // Why a line is not the line of a record.
+use std::error::Error;
 use std::fmt;
 
 /// What is wrong with a line, at the first word that does not fit.
@@ -31,3 +32,5 @@ impl fmt::Display for LineFault {
         })
     }
 }
+
+impl Error for LineFault {}

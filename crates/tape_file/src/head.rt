@@ -4,4 +4,8 @@ use records::tags::SfTag;
 
 /// A node's anchor, its tag, and its tag as it was written.
 #[derive(Clone, Copy)]
-pub(crate) struct Head(pub(crate) u32, pub(crate) SfTag, pub(crate) Option<Place>);
+pub(crate) struct Head {
+    pub(crate) anchor: u32,
+    pub(crate) tag: SfTag,
+    pub(crate) raw_tag: Option<Place>,
+}

@@ -19,6 +19,6 @@ mod head;
 pub mod line;
 pub mod read;
 pub mod round_trip;
-mod small;
+mod spelled;
 mod spelling;
 mod words;

@@ -1,17 +1,18 @@
 // Records as lines.
 ghost use Rattle.std.specs.Prelude.{◌≡◌, IfOk, Some, string_bytes};
 ghost use Rattle.tape_file.specs.Heads.{head_words};
-ghost use Rattle.tape_file.specs.Lines.{location_words, origin_words, place_words, raw_words, event_words, written};
+ghost use Rattle.tape_file.specs.Lines.{location_words, origin_words, place_words, raw_words, event_words, written, SmallRecord};
 ghost use Rattle.tape_file.specs.Spaces.{spaced};
 
 use crate::head::Head;
-use crate::spelling::{style_word, tag_word};
+use crate::spelled::Listed;
 use records::location::{Location, NodeOrigin};
 use records::record::{Event, Place, Record};
 use std::alloc::{AllocError, Global};
 use std::fmt;
 
 /// A record, or a part of one, to be shown as a tape file has it: `{}` of a `Line<Record>` is its line.
+// An impl for each part, and of this type, since the parts are another crate's: one impl over a trait would only move the same bodies.
 #[derive(Clone, Copy)]
 pub struct Line<T>(pub T);
 
@@ -64,8 +65,12 @@ impl fmt::Display for Line<Head> {
     ghost output = { λ x. Some (spaced (head_words x.0)) };
 
     fn fmt<W: fmt::Write>(&self, f: &mut fmt::Formatter<W>) -> fmt::Result {
-        let Head(anchor, tag, raw_tag) = self.0;
-        write!(f, "{anchor} {} {}", tag_word(tag), Line(raw_tag))
+        let Head {
+            anchor,
+            tag,
+            raw_tag,
+        } = self.0;
+        write!(f, "{anchor} {} {}", tag.word(), Line(raw_tag))
     }
 }
 
@@ -81,20 +86,38 @@ impl fmt::Display for Line<Event> {
                 style,
                 value,
             } => {
-                let head = Line(Head(anchor, tag, raw_tag));
-                write!(f, "scalar {head} {} {}", style_word(style), Line(value))
+                let head = Head {
+                    anchor,
+                    tag,
+                    raw_tag,
+                };
+                write!(f, "scalar {} {} {}", Line(head), style.word(), Line(value))
             }
             Event::SeqStart {
                 anchor,
                 tag,
                 raw_tag,
-            } => write!(f, "seq {}", Line(Head(anchor, tag, raw_tag))),
+            } => {
+                let head = Head {
+                    anchor,
+                    tag,
+                    raw_tag,
+                };
+                write!(f, "seq {}", Line(head))
+            }
             Event::SeqEnd => f.write_str("endseq"),
             Event::MapStart {
                 anchor,
                 tag,
                 raw_tag,
-            } => write!(f, "map {}", Line(Head(anchor, tag, raw_tag))),
+            } => {
+                let head = Head {
+                    anchor,
+                    tag,
+                    raw_tag,
+                };
+                write!(f, "map {}", Line(head))
+            }
             Event::MapEnd => f.write_str("endmap"),
             Event::RecursiveAlias { anchor } => write!(f, "alias {anchor}"),
         }
@@ -117,7 +140,10 @@ impl fmt::Display for Line<Record> {
 
 /// The line of a record, as text.
 pub fn write_record(heap: Global, record: Record) -> Result<String, AllocError>
-    ensures { IfOk result (λ line. string_bytes line ≡ written «record») }
+    ensures line { IfOk result (λ line. string_bytes line ≡ written «record») }
+
+    // As its type says: so the line can be read as no other record.
+    ensures small { SmallRecord «record» }
 {
     Line(record).to_string(heap)
 }

@@ -1,38 +1,61 @@
 // The words of a line, one after another.
-ghost use Rattle.std.specs.Prelude.{◌≡◌};
+ghost use Rattle.std.specs.Prelude.{◌≡◌, ℕ, List};
+ghost use Rattle.std.specs.Iterator.{YieldsFirstRef, item_count};
+ghost use Rattle.std.specs.Str.Iter.{split_pattern};
+ghost use Rattle.tape_file.specs.Reading.{left, Parses, Takes};
 ghost use Rattle.tape_file.specs.Spaces.{split};
-ghost use Rattle.tape_file.specs.Reading.{left, Takes};
 
 use crate::fault::LineFault;
+use crate::spelled::Spelled;
+use std::marker::Model;
+use std::str::Split;
 
-/// What is left of a line, from the start of a word on; nothing, after the last word.
+/// The words of a line that are still to be read.
 #[derive(Drop)]
 pub(crate) struct Words<'a> {
-    pub(crate) rest: Option<&'a str>,
+    parts: Split<'a, char>,
+}
+
+impl<'a> Model for Words<'a> {
+    ghost Value = { List (List ℕ) };
+
+    ghost view = { λ w. left w.parts };
+
+    ghost invariant = { λ w. split_pattern w.parts ≡ 32 };
 }
 
 impl<'a> Words<'a> {
     pub(crate) fn new(line: &'a str) -> Words<'a>
-        ensures { left result.rest ≡ split line.now }
+        ensures { result ≡ split line.now }
     {
-        Words { rest: Some(line) }
+        Words {
+            parts: line.split(' '),
+        }
     }
 
-    pub(crate) fn next(&mut self) -> Result<&'a str, LineFault>
-        ensures { Takes (left self.old.rest) result (left self.new.rest) }
+    /// Reads a value from the front of the words.
+    pub(crate) fn read<T: Spelled>(&mut self) -> Result<T, LineFault>
+        ensures { Parses T.spelling T.fits self.old result self.new }
     {
-        let Some(text) = self.rest else {
-            return Err(LineFault::MissingWord);
-        };
-        match text.split_once(' ') {
-            Some((word, rest)) => {
-                self.rest = Some(rest);
-                Ok(word)
-            }
-            None => {
-                self.rest = None;
-                Ok(text)
-            }
-        }
+        T::parse(self)
+    }
+
+    /// The next word, which has to be there.
+    pub(crate) fn word(&mut self) -> Result<&'a str, LineFault>
+        ensures { Takes self.old result self.new }
+    {
+        self.next().ok_or(LineFault::MissingWord)
+    }
+}
+
+impl<'a> Iterator for Words<'a> {
+    type Item = &'a str;
+
+    ghost next_gives = { YieldsFirstRef (λ s. s) };
+
+    ghost remaining = { item_count (λ s. s) };
+
+    fn next(&mut self) -> Option<&'a str> {
+        self.parts.next()
     }
 }

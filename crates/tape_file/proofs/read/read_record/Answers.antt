@@ -1,8 +1,5 @@
 -- A line is a record's where its words are, and none is left.
-use Rattle.std.proofs.Common.{◌<◌, length, sym, ap, subst}
-use Rattle.tape_file.specs.Reading.{left}
 use Rattle.tape_file.proofs.Records.{reads_whole, reads_lacks, reads_more}
-use Rattle.tape_file.proofs.Spacing.{split_some}
 use Rattle.tape_file.proofs.read.read_record.Goals as goal
 
 pub returns-in_err-record : goal.returns-in_err-record
@@ -11,8 +8,8 @@ returns-in_err-record c =
 
 pub returns-in-None : goal.returns-in-None
 returns-in-None c =
-    reads_whole c.args.line.now _ c.new-words.ensures c.in_ok-record.record _ (ap left c.in-None.is) c.in_ok-record.ensures
+    reads_whole c.args.line.now _ c.new-words.ensures c.in_ok-record.record _ c.in-None.ensures.steps.0 c.in_ok-record.ensures
 
 pub returns-in-Some : goal.returns-in-Some
 returns-in-Some c =
-    reads_more c.args.line.now _ c.new-words.ensures c.in_ok-record.record _ (subst (λ o. 0 < length (left o)) (sym c.in-Some.is) (split_some c.in-Some.field-0.now)) c.in_ok-record.ensures
+    reads_more c.args.line.now _ c.new-words.ensures c.in_ok-record.record _ c.next.new.self c.in-Some.field-0.now c.in-Some.ensures.steps c.in_ok-record.ensures

@@ -1,0 +1,49 @@
+// What stands in a line as words: one trait for all parts of a record, and one for types with few values.
+ghost use Rattle.std.specs.Prelude.{◌≡◌, ℕ, List, [], ◌∷◌, ⊤};
+ghost use Rattle.tape_file.specs.Reading.{Parses};
+ghost use Rattle.tape_file.specs.Tables.{FindsEach};
+
+use crate::fault::LineFault;
+use crate::words::Words;
+
+/// A value that stands in a line as one or more words.
+pub(crate) trait Spelled: Sized {
+    // Its words, and whether its numbers are small enough.
+    ghost spelling: { Self → List (List ℕ) };
+
+    ghost fits: { Self → Type 0 };
+
+    /// Reads the value from the front of the words.
+    fn parse(words: &mut Words) -> Result<Self, LineFault>
+        ensures { Parses spelling fits words.old result words.new };
+}
+
+/// A type with few values, each of which has a word.
+pub(crate) trait Listed: Copy + 'static {
+    ghost spelled: { Self → List ℕ };
+
+    /// What a word is, if it is no value's.
+    const FAULT: LineFault;
+
+    /// Every value.
+    fn all() -> &'static [Self]
+        ensures { FindsEach spelled result.now };
+
+    fn word(self) -> &'static str
+        ensures { result.now ≡ spelled self };
+}
+
+impl<T: Listed> Spelled for T {
+    ghost spelling = { λ x. T.spelled x ∷ [] };
+
+    ghost fits = { λ _. ⊤ };
+
+    fn parse(words: &mut Words) -> Result<T, LineFault> {
+        let word = words.word()?;
+        T::all()
+            .iter()
+            .find(|x| x.word() == word)
+            .copied()
+            .ok_or(T::FAULT)
+    }
+}
