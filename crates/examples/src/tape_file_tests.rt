@@ -5,12 +5,13 @@ use records::tags::SfTag;
 use std::process::Abort;
 use std::test::Fail;
 use tape_file::fault::LineFault;
-use tape_file::line::write_record;
+use tape_file::line::{Line, write_record};
 use tape_file::read::read_record;
 use tape_file::round_trip::reads_back;
 
 fn reads_as(rt: &impl Abort, line: &str, record: Record) -> Result<(), Fail> {
     assert!(rt; read_record(line)? == record);
+    assert!(rt; line.parse::<Line<Record>>()?.0 == record);
     Ok(())
 }
 
@@ -94,10 +95,7 @@ fn refused_lines(rt: HostRuntime) -> Result<(), Fail> {
         ("1 1 0 direct scalar 0 none - bold 0 1", LineFault::NoStyle),
     ];
     for (line, fault) in lines {
-        match read_record(line) {
-            Ok(_) => return Err(Fail::new(line)),
-            Err(why) => assert_eq!(rt; why, fault, "{}", line),
-        }
+        assert_eq!(rt; read_record(line).err(), Some(fault), "{}", line);
     }
     Ok(())
 }

@@ -3,6 +3,5 @@ pub mod Listings
 pub mod Numbers
 pub mod Parsing
 pub mod Records
-pub mod Shown
 pub mod Solidity
 pub mod Spacing

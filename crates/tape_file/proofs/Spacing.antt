@@ -1,5 +1,5 @@
 -- Lines and their words: joining words, and cutting a line into them.
-use Rattle.std.proofs.Common.{◌≡◌, ℕ, ◌<◌, Bool, true, false, cond, not, eqb, List, [], ◌∷◌, ◌++◌, length, get_or, take, drop, take-append-drop, Some, None, MatchOption, Option, Bor, sym, refl, ap, ◌∙◌, subst, append_assoc, arith, rules, lit<}
+use Rattle.std.proofs.Common.{◌≡◌, ℕ, ◌<◌, Bool, true, false, cond, not, eqb, List, [], ◌∷◌, ◌++◌, length, get_or, take, drop, take-append-drop, Some, None, MatchOption, Option, Bor, sym, refl, ap, ◌∙◌, subst, arith, rules, lit<}
 use Rattle.std.proofs.lemmas.Bool.{ne_eqb, not-true}
 use Rattle.std.proofs.lemmas.List.Elements.{All-from_get_or}
 use Rattle.std.proofs.lemmas.List.Splits.{slice_split_at, slice_split_none, join_with_byte-slice_split}
@@ -13,12 +13,6 @@ use Rattle.std.specs.Str.Pattern.{FindsChar, IsSplitAtFirstMatch}
 use Rattle.std.specs.declared.str.Split.{Split}
 use Rattle.tape_file.specs.Reading.{left}
 use Rattle.tape_file.specs.Spaces.{spaced, split}
-
-pub spaced_append : (vs ws : List (List ℕ)) → 0 < length vs → 0 < length ws → spaced (vs ++ ws) ≡ spaced vs ++ (32 ∷ spaced ws)
-spaced_append [] ws h k = absurd (omega arith)
-spaced_append (v ∷ []) [] h k = absurd (omega arith)
-spaced_append (v ∷ []) (w ∷ ws) h k = refl
-spaced_append (v ∷ (u ∷ vs)) ws h k = ap (λ (l : List ℕ). v ++ (32 ∷ l)) (spaced_append (u ∷ vs) ws (search rules) k) ∙ sym (append_assoc v (32 ∷ spaced (u ∷ vs)) (32 ∷ spaced ws))
 
 -- a word has no blank
 abbrev pub Solid : List ℕ → Type 0
