@@ -42,8 +42,7 @@ impl<T: Drop> From<AllocFailed<T>> for FileFault {
 fn is_silent(line: &str) -> bool
     ensures { Decides result (Silent line.now) }
 {
-    let bytes = line.as_bytes();
-    bytes.len() == 0 || bytes[0] == b'#'
+    line.is_empty() || line.starts_with('#')
 }
 
 /// The record that a line says, nothing where the line is empty or begins with `#`, or else why it says none.

@@ -29,23 +29,32 @@ fn reads_as_integer(scalar: Scalar) -> bool
 fn is_of(ev: Ev, kind: Kind) -> bool
     ensures { Decides result (Of kind (view_of ev.entry)) }
 {
-    match ev {
-        Ev::Scalar {
-            value,
-            tag,
-            style,
-            ..
-        } => match kind {
-            Kind::Scalar => true,
-            Kind::Integer => reads_as_integer(Scalar { value, tag, style }),
-            Kind::Null => Scalar { value, tag, style }.is_null(),
-            _ => false,
-        },
-        Ev::SeqStart { .. } => matches!(kind, Kind::SeqStart),
-        Ev::SeqEnd { .. } => matches!(kind, Kind::SeqEnd),
-        Ev::MapStart { .. } => matches!(kind, Kind::MapStart),
-        Ev::MapEnd { .. } => matches!(kind, Kind::MapEnd),
-        Ev::RecursiveAlias { .. } => matches!(kind, Kind::RecursiveAlias),
+    match (kind, ev) {
+        (Kind::Scalar, Ev::Scalar { .. })
+        | (Kind::SeqStart, Ev::SeqStart { .. })
+        | (Kind::SeqEnd, Ev::SeqEnd { .. })
+        | (Kind::MapStart, Ev::MapStart { .. })
+        | (Kind::MapEnd, Ev::MapEnd { .. })
+        | (Kind::RecursiveAlias, Ev::RecursiveAlias { .. }) => true,
+        (
+            Kind::Integer,
+            Ev::Scalar {
+                value,
+                tag,
+                style,
+                ..
+            },
+        ) => reads_as_integer(Scalar { value, tag, style }),
+        (
+            Kind::Null,
+            Ev::Scalar {
+                value,
+                tag,
+                style,
+                ..
+            },
+        ) => Scalar { value, tag, style }.is_null(),
+        _ => false,
     }
 }
 
