@@ -22,7 +22,7 @@ pub(crate) trait Spelled: Sized {
 pub(crate) trait Listed: Copy + 'static {
     ghost spelled: { Self → List ℕ };
 
-    /// What a word is, if it is no value's.
+    /// The fault of a word that is no value's.
     const FAULT: LineFault;
 
     /// Every value.
