@@ -6,64 +6,46 @@ ghost use Rattle.nodes.specs.Rooming.{PlacesOnlyLimit};
 ghost use Rattle.nodes.specs.Agreeing.{CollectionsAgree, KeysAreUnique};
 
 /// The policy FirstWins keeps exactly the fields with no alike key before them.
-pub fn first_wins() -> u8
+pub fn first_wins()
     ensures { FirstWinsLaw }
-{
-    0
-}
+{}
 
 /// The policy LastWins keeps exactly the fields with no alike key behind them.
-pub fn last_wins() -> u8
+pub fn last_wins()
     ensures { LastWinsLaw }
-{
-    0
-}
+{}
 
 /// Both keep one field of each key, and lose no key.
-pub fn keys_are_kept_once() -> u8
+pub fn keys_are_kept_once()
     ensures { KeysKeptOnce }
-{
-    0
-}
+{}
 
 /// The policy Error refuses exactly where a key repeats, at the first that does.
-pub fn error_refuses_the_first_repeat() -> u8
+pub fn error_refuses_the_first_repeat()
     ensures { ErrorAtFirstRepeat }
-{
-    0
-}
+{}
 
 /// Under the policy Error the own keys of a collected mapping are unique.
-pub fn keys_are_unique() -> u8
+pub fn keys_are_unique()
     ensures { KeysAreUnique }
-{
-    0
-}
+{}
 
 /// What a collection leaves on the rack is one node, as large as the one that came.
-pub fn one_node_is_left() -> u8
+pub fn one_node_is_left()
     ensures { OneNodeLeft }
-{
-    0
-}
+{}
 
 /// Collecting from a source, and collecting what was captured from it, end in the same fields or the same refusal.
-pub fn collections_agree() -> u8
+pub fn collections_agree()
     ensures { CollectionsAgree }
-{
-    0
-}
+{}
 
 /// The search for merge keys inside a node finds the first, in the order in which the node is written, or there is none.
-pub fn merge_keys_are_found_first() -> u8
+pub fn merge_keys_are_found_first()
     ensures { SearchFindsTheFirst }
-{
-    0
-}
+{}
 
 /// With more entry places the answer is the same, unless the fewer were full; as many as a node has records are enough.
-pub fn places_only_limit() -> u8
+pub fn places_only_limit()
     ensures { PlacesOnlyLimit }
-{
-    0
-}
+{}

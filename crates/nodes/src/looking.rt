@@ -2,15 +2,11 @@
 ghost use Rattle.nodes.specs.Looking.{LookingResolves, ReferenceIsTheSources};
 
 /// A look at a source refuses an unknown alias, or else shows the node with its alias resolved, and leaves it so.
-pub fn looking_resolves_aliases() -> u8
+pub fn looking_resolves_aliases()
     ensures { LookingResolves }
-{
-    0
-}
+{}
 
 /// The reference of a node is the reference location of the source in which it comes next.
-pub fn references_are_the_sources() -> u8
+pub fn references_are_the_sources()
     ensures { ReferenceIsTheSources }
-{
-    0
-}
+{}

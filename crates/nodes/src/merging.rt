@@ -2,15 +2,11 @@
 ghost use Rattle.nodes.specs.Merging.{MergeLaw, MergeExamples};
 
 /// The effective list of a collected mapping is the mapping with its merges resolved, as the merge key type says.
-pub fn merges_are_resolved() -> u8
+pub fn merges_are_resolved()
     ensures { MergeLaw }
-{
-    0
-}
+{}
 
 /// What small mappings are collected to: one with merges in one another, and one with a repeated key by each policy.
-pub fn merge_examples() -> u8
+pub fn merge_examples()
     ensures { MergeExamples }
-{
-    0
-}
+{}
