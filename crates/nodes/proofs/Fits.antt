@@ -9,7 +9,7 @@ use Rattle.nodes.specs.Tree.{Mark, Node, Nodes, Pairs, flat, flats, flatp, size,
 use Rattle.nodes.specs.Tree.Node.{scalar, alias, seq, dict, cut}
 use Rattle.nodes.specs.Tree.Nodes.{none, more}
 use Rattle.nodes.specs.Tree.Pairs.{done, pair}
-use Rattle.nodes.specs.Reading.{Limits, Bar, or_else, slot_at, place_at, open_at, start_at, bars, barss, barsp, Fits, Fitting}
+use Rattle.nodes.specs.Reading.{Limits, Bar, or_else, slot_at, place_at, open_at, start_at, bars, barss, barsp, Fits}
 
 -- questions that are answered with yes
 pub yes_from : (q : Bool) (b : Bar) → cond q None (Some b) ≡ None → q ≡ true
@@ -136,6 +136,3 @@ module _ (l : Limits) where
   barred_fits t h =
       let p = passed l.deep 0 t h in
       record { unbroken = p.whole; short = (let s = p.short in omega arith); low = p.low; inside = p.inside [] tt }
-
-pub fitting : Fitting
-fitting l es t rest h = (barred_fits l t, fits_barred l t)

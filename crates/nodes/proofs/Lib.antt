@@ -19,7 +19,6 @@ pub mod Keeping
 pub mod Marks
 pub mod Inserting
 pub mod Resolving
-pub mod SmallMerges
 pub mod Looks
 pub mod Finds
 pub mod Fewer

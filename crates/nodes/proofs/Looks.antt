@@ -1,20 +1,17 @@
--- What a look at a source shows of a node, and the node's reference.
-use Rattle.std.proofs.Common.{◌≡◌, ℕ, Bool, true, false, cond, List, [], ◌∷◌, map, Some, None as Nothing, Ok, Err, Option, Result, refl, ap, ◌∙◌, subst}
+-- What a look at a source shows of a node.
+use Rattle.std.proofs.Common.{◌≡◌, ℕ, Bool, true, false, cond, List, [], ◌∷◌, Some, None as Nothing, Ok, Err, Option, Result, refl, ap, ◌∙◌, subst}
 use Rattle.std.proofs.lemmas.Bool.{false≢true}
-use Rattle.records.specs.declared.location.Location.{Location}
-use Rattle.records.specs.declared.location.NodeOrigin.{NodeOrigin}
-use Rattle.records.specs.declared.location.NodeOrigin.TheVariants.{Direct, Alias, Merge}
 use Rattle.records.specs.declared.record.Event.TheVariants.{RecursiveAlias}
 use Rattle.records.specs.declared.record.Record.{Record}
 use Rattle.records.specs.declared.refusal.Reason.TheVariants.{UnknownAlias}
 use Rattle.records.specs.declared.refusal.Refusal.{Refusal}
-use Rattle.events.specs.Meaning.{Close, known, nulled, unknown_alias, there, front, tail, peeked, settled, origin_at, own_at, refers}
+use Rattle.events.specs.Meaning.{Close, known, nulled, unknown_alias, there, front, tail, peeked, settled}
 use Rattle.nodes.specs.Tree.{Mark, Node, rec, scalar_event, seq_event, map_event, flat, flats, flatp, whole}
 use Rattle.nodes.specs.Tree.Node.{scalar, alias, seq, dict, cut}
 use Rattle.nodes.specs.Reading.{refusal}
-use Rattle.nodes.specs.Fields.{null_for, resolved, mark, place, alias_or}
+use Rattle.nodes.specs.Fields.{null_for, resolved}
 use Rattle.nodes.specs.Collect.{Stop, unknown_at}
-use Rattle.nodes.specs.Looking.{shown_with, played_with, LookingResolves, ReferenceIsTheSources}
+use Rattle.nodes.specs.Looking.{LookingResolves}
 
 -- what is shown of a node, by whether an unknown alias is refused
 abbrev Shown : Bool → Node → List Record → Result (Option Record) Refusal → Option Stop → Type 0
@@ -46,25 +43,4 @@ looking_resolves m t rest i w e =
       λ s u. p ∙ subst (Shown d t rest (front d m.anchors m.close (flat t rest))) u h,
       λ u. let (r, behind, first, shows, leaves) = subst (Shown d t rest (front d m.anchors m.close (flat t rest))) u h in
           (r, behind, first, p ∙ shows, ap (λ x. (settled x m).events) (p ∙ shows) ∙ ap (λ es. r ∷ tail es) e ∙ leaves),
-    )
-
--- the first record of a whole node stands where the node does
-headed_by_mark : (t : Node) (rest : List Record) → whole t ≡ true → (r : Record) × (behind : List Record) × (flat t rest ≡ r ∷ behind) × (r.origin ≡ (mark t).origin) × (r.location ≡ place t)
-headed_by_mark (scalar k x) rest w = (rec k (scalar_event x), rest, refl, refl, refl)
-headed_by_mark (alias k a) rest w = (rec k (RecursiveAlias a), rest, refl, refl, refl)
-headed_by_mark (seq k h ns) rest w = (rec k (seq_event h), flats ns rest, refl, refl, refl)
-headed_by_mark (dict k h ps) rest w = (rec k (map_event h), flatp ps rest, refl, refl, refl)
-headed_by_mark (cut c) rest w = absurd (false≢true w)
-
-refers_with : (l own : Location) (o : NodeOrigin) → refers (shown_with l o) own ≡ alias_or l o
-refers_with l own Direct = refl
-refers_with l own (Alias a) = refl
-refers_with l own (Merge m) = refl
-
-pub reference_is_the_sources : ReferenceIsTheSources
-reference_is_the_sources m t rest l w =
-    let (r, behind, is, o, p) = headed_by_mark t rest w in
-    let refer = λ (es : List Record). refers (origin_at m.past es) (own_at m.last es) in (
-      λ e. ap refer (e ∙ is) ∙ ap (λ x. refers x r.location) o ∙ ap (refers (mark t).origin) p,
-      λ e. ap refer (e ∙ ap (map (played_with l)) is) ∙ refers_with l r.location r.origin ∙ ap (alias_or l) o,
     )

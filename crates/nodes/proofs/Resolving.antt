@@ -6,16 +6,16 @@ use Rattle.records.specs.declared.location.NodeOrigin.{NodeOrigin}
 use Rattle.records.specs.declared.location.NodeOrigin.TheVariants.{Direct, Alias, Merge as MergeOrigin}
 use Rattle.records.specs.declared.options.MergeKeyPolicy.TheVariants.{Merge}
 use Rattle.events.specs.Meaning.{known, refers}
-use Rattle.nodes.specs.Tree.{Mark, Head, Node, Nodes, Pairs, size, whole, wholes, wholep}
+use Rattle.nodes.specs.Tree.{Mark, Head, Node, Nodes, Pairs, size, sizep, whole, wholes, wholep}
 use Rattle.nodes.specs.Tree.Node.{scalar, alias, seq, dict, cut}
 use Rattle.nodes.specs.Tree.Nodes.{none, more}
 use Rattle.nodes.specs.Tree.Pairs.{done, pair}
 use Rattle.nodes.specs.Fields.{Rules, Basis, Item, is_merge, null_words, mark, place, alias_or, reference_at, field_of}
 use Rattle.nodes.specs.Fields.Basis.{direct, expansion}
 use Rattle.nodes.specs.Repeats.{kept_by}
-use Rattle.nodes.specs.Collect.{Stop, Gathered, unknown_at, closed, as_field, as_merge, gather, merge_value, elements, expand}
+use Rattle.nodes.specs.Collect.{Stop, Gathered, and_then, unknown_at, closed, as_field, as_merge, gather, merge_value, elements, expand}
 use Rattle.nodes.specs.Collect.Stand.{held}
-use Rattle.nodes.specs.Merging.{effective, merged_in, merged_all, fields, Resolves, Merges, StandsFor, StandFor, MergeLaw}
+use Rattle.nodes.specs.Merging.{effective, merged_in, merged_all, fields, Resolves, Merges, StandsFor, StandFor}
 use Rattle.nodes.specs.Merging.Resolves.{resolves}
 use Rattle.nodes.specs.Merging.Merges.{no_more, plain, merge}
 use Rattle.nodes.specs.Merging.StandsFor.{null, reference, itself, each}
@@ -134,7 +134,9 @@ module _ (R : Rules) (merging : R.merges ≡ Merge) where
         brings_one R (itself (subst (λ o. Resolves R (expansion o) ps (effective R.text new)) (sym r) (closed_resolves (expansion l) ps 0 g new (gathered ps (expansion l) u 0 g w p) q)))
     expanded (cut c) l u new w r h = absurd (false≢true w)
 
-pub merge_law : MergeLaw
-merge_law R b missing k x ps es w merging h =
+-- what a mapping, its merges merged, is collected to
+pub merges_resolved : (R : Rules) (b : Basis) (ps : Pairs) (es : List Item) → wholep ps ≡ true → R.merges ≡ Merge
+    → and_then (gather R b held false 0 1 ps) (closed R (1 + sizep ps)) ≡ Ok es → Resolves R b ps (effective R.text es)
+merges_resolved R b ps es w merging h =
     let (g, p, q) = then_made _ _ _ h in
     closed_resolves R merging b ps _ g es (gathered R merging ps b 0 1 g w p) q

@@ -6,11 +6,13 @@ ghost use Rattle.nodes.specs.Rooming.{PlacesOnlyLimit};
 ghost use Rattle.nodes.specs.Agreeing.{CollectionsAgree, KeysAreUnique};
 
 /// The policy FirstWins keeps exactly the fields with no alike key before them.
+#[tactic(auto, using(crate::proofs::Keeping::first_wins))]
 pub fn first_wins()
     ensures { FirstWinsLaw }
 {}
 
 /// The policy LastWins keeps exactly the fields with no alike key behind them.
+#[tactic(auto, using(crate::proofs::Keeping::last_wins))]
 pub fn last_wins()
     ensures { LastWinsLaw }
 {}
@@ -26,6 +28,7 @@ pub fn error_refuses_the_first_repeat()
 {}
 
 /// Under the policy Error the own keys of a collected mapping are unique.
+#[tactic(auto, using(crate::proofs::Marks::keys_are_unique))]
 pub fn keys_are_unique()
     ensures { KeysAreUnique }
 {}
@@ -36,6 +39,7 @@ pub fn one_node_is_left()
 {}
 
 /// Collecting from a source, and collecting what was captured from it, end in the same fields or the same refusal.
+#[tactic(auto, using(crate::proofs::Agrees::collections_agree))]
 pub fn collections_agree()
     ensures { CollectionsAgree }
 {}
@@ -46,6 +50,7 @@ pub fn merge_keys_are_found_first()
 {}
 
 /// With more entry places the answer is the same, unless the fewer were full; as many as a node has records are enough.
+#[tactic(auto, using(crate::proofs::Enough::places_only_limit))]
 pub fn places_only_limit()
     ensures { PlacesOnlyLimit }
 {}

@@ -2,6 +2,7 @@
 ghost use Rattle.nodes.specs.Looking.{LookingResolves, ReferenceIsTheSources};
 
 /// A look at a source refuses an unknown alias, or else shows the node with its alias resolved, and leaves it so.
+#[tactic(auto, using(crate::proofs::Looks::looking_resolves))]
 pub fn looking_resolves_aliases()
     ensures { LookingResolves }
 {}
