@@ -30,13 +30,13 @@ pair_parts k v ps w =
     (y, z, size_some k x)
 
 alias_other : Other UnknownAlias
-alias_other e = let z : ◌≡◌ {A = ℕ} 0 1 = cc in omega arith
+alias_other e = cc
 
 value_other : Other MergeValueNotMapOrSeqOfMaps
-value_other e = let z : ◌≡◌ {A = ℕ} 0 1 = cc in omega arith
+value_other e = cc
 
 key_other : Other MergeKeyNotAllowed
-key_other e = let z : ◌≡◌ {A = ℕ} 0 1 = cc in omega arith
+key_other e = cc
 
 module _ (R : Rules) where
   -- Of n records, with u places taken before: a number of entries that fits in the places, and that is at most n where

@@ -160,11 +160,11 @@ module _ (text : List ℕ) where
 -- from what is found to what there is, and back, where one place has one key
 found_none : (At : ℕ → Location → Type 0) (o : Option Location) → Finds At o → (o ≡ Nothing) ↔ ((n : ℕ) (l : Location) → At n l → ⊥)
 found_none At Nothing f = (λ e. f, λ h. refl)
-found_none At (Some l) (n, a, least) = (λ e. let z : ◌≡◌ {A = ℕ} 0 1 = cc in absurd (omega arith), λ h. absurd (h n l a))
+found_none At (Some l) (n, a, least) = (λ e. absurd (cc), λ h. absurd (h n l a))
 
 found_first : (At : ℕ → Location → Type 0) (o : Option Location) → ((n : ℕ) (l p : Location) → At n l → At n p → l ≡ p) → Finds At o → (l : Location)
     → (o ≡ Some l) ↔ ((n : ℕ) × At n l × ((m : ℕ) (p : Location) → At m p → n ≤ m))
-found_first At Nothing once f l = (λ e. let z : ◌≡◌ {A = ℕ} 0 1 = cc in absurd (omega arith), λ (n, a, least). absurd (f n l a))
+found_first At Nothing once f l = (λ e. absurd (cc), λ (n, a, least). absurd (f n l a))
 found_first At (Some p) once (n, a, least) l = (
   λ e. let q : p ≡ l = cc in subst (λ x. (n : ℕ) × At n x × ((m : ℕ) (p : Location) → At m p → n ≤ m)) q (n, a, least),
   λ (m, b, first). let x = least m l b in let y = first n p a in let e : n ≡ m = omega arith in ap Some (once m p l (subst (λ j. At j p) e a) b),

@@ -14,11 +14,11 @@ use Rattle.nodes.specs.Reading.{Limits, Bar, or_else, slot_at, place_at, open_at
 -- questions that are answered with yes
 pub yes_from : (q : Bool) (b : Bar) → cond q None (Some b) ≡ None → q ≡ true
 yes_from true b h = refl
-yes_from false b h = let z : ◌≡◌ {A = ℕ} 0 1 = cc in absurd (omega arith)
+yes_from false b h = absurd (cc)
 
 pub neither : (a b : Option Bar) → or_else a b ≡ None → (a ≡ None) × (b ≡ None)
 neither None b h = (refl, h)
-neither (Some x) b h = let z : ◌≡◌ {A = ℕ} 0 1 = cc in absurd (omega arith)
+neither (Some x) b h = absurd (cc)
 
 neither_from : (a b : Option Bar) → a ≡ None → b ≡ None → or_else a b ≡ None
 neither_from a b p q = ap₂ or_else p q
@@ -78,7 +78,7 @@ module _ (l : Limits) where
         let s = start_free d i k (map_event h') a in
         let p = passedp (d - 1) (i + 1) ps b in
         record { whole = p.whole; short = omega arith; low = omega arith; inside = λ r q. (s.lies, p.inside r q) }
-    passed d i (cut c) h = let z : ◌≡◌ {A = ℕ} 0 1 = cc in absurd (omega arith)
+    passed d i (cut c) h = absurd (cc)
 
     pub passeds : (d i : ℕ) (ns : Nodes) → barss l d i ns ≡ None → Passed d i (wholes ns) (sizes ns) (depths ns) (flats ns)
     passeds d i (none k) h = let f = slot_free i k h in record { whole = refl; short = omega arith; low = omega arith; inside = λ r p. (refl, p) }

@@ -73,8 +73,8 @@ module _ (text : List ℕ) where
       cond_both (has_key text e seen) _ _ (λ xs. has_key text k xs ≡ false) (λ p. r) (λ p. or_from (same_key text k e) _ (apart k e seen h p) r)
 
   pub distinct_none : Distinct text []
-  distinct_none [] b e h = let z : ◌≡◌ {A = ℕ} 0 1 = cc in absurd (omega arith)
-  distinct_none (x ∷ a) b e h = let z : ◌≡◌ {A = ℕ} 0 1 = cc in absurd (omega arith)
+  distinct_none [] b e h = absurd (cc)
+  distinct_none (x ∷ a) b e h = absurd (cc)
 
   pub distinct_more : (e : Item) (es : List Item) → has_key text e es ≡ false → Distinct text es → Distinct text (e ∷ es)
   distinct_more e es h d [] b f p = let (x, y) = cons_parts e f es b p in (refl, ap₂ (has_key text) (sym x) (sym y) ∙ h)
@@ -132,7 +132,7 @@ keys_kept_once text es = (distinct_firsts text [] es, distinct_lasts text es, (�
 
 not_refused : (es dropped kept : List Item) → refuse_repeat es (head dropped) ≡ Ok kept → (kept ≡ es) × (dropped ≡ [])
 not_refused es [] kept h = (cc, refl)
-not_refused es (e ∷ dropped) kept h = let z : ◌≡◌ {A = ℕ} 0 1 = cc in absurd (omega arith)
+not_refused es (e ∷ dropped) kept h = absurd (cc)
 
 pub error_at_first_repeat : ErrorAtFirstRepeat
 error_at_first_repeat m text es = (

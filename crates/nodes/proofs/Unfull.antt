@@ -43,14 +43,14 @@ asked false why k i h = h
 
 module _ (l : Limits) where
   slot_asked : (i : ℕ) (k : Mark) → Passable (slot_at l i k)
-  slot_asked i k = asked (ltb i l.room) RackFull k i (λ e. let z : ◌≡◌ {A = ℕ} 0 1 = cc in omega arith)
+  slot_asked i k = asked (ltb i l.room) RackFull k i (λ e. cc)
 
   place_asked : (i : ℕ) (k : Mark) (e : Event) → Passable (place_at l i k e)
-  place_asked i k e = asked (placed l.text e) PlaceOutsideRackText k i (λ h. let z : ◌≡◌ {A = ℕ} 0 1 = cc in omega arith)
+  place_asked i k e = asked (placed l.text e) PlaceOutsideRackText k i (λ h. cc)
 
   start_asked : (d i : ℕ) (k : Mark) (e : Event) → Passable (start_at l d i k e)
   start_asked d i k e = passable_or (slot_at l i k) _ (slot_asked i k)
-      (passable_or (place_at l i k e) (open_at d i k) (place_asked i k e) (asked (ltb 0 d) TooDeep k i (λ h. let z : ◌≡◌ {A = ℕ} 0 1 = cc in omega arith)))
+      (passable_or (place_at l i k e) (open_at d i k) (place_asked i k e) (asked (ltb 0 d) TooDeep k i (λ h. cc)))
 
   mutual
     bars-asked : (d i : ℕ) (t : Node) → whole t ≡ true → Passable (bars l d i t)
@@ -94,7 +94,7 @@ unfull_start (live l d) i k e = unfull_bar true i (start_at l d i k e) (start_as
 pub unfull_unknown : (defers : Bool) (ks : List ℕ) (i : ℕ) (t : Node) → Unfull (unknown_at defers ks i t)
 unfull_unknown defers ks i (scalar k x) = tt
 unfull_unknown true ks i (alias k a) = tt
-unfull_unknown false ks i (alias k a) = cond_both (known a ks) _ _ Unfull (λ e. tt) (λ e h. let z : ◌≡◌ {A = ℕ} 0 1 = cc in omega arith)
+unfull_unknown false ks i (alias k a) = cond_both (known a ks) _ _ Unfull (λ e. tt) (λ e h. cc)
 unfull_unknown defers ks i (seq k h ns) = tt
 unfull_unknown defers ks i (dict k h ps) = tt
 unfull_unknown defers ks i (cut c) = tt
@@ -114,11 +114,11 @@ lasts_few text (e ∷ es) = let h = lasts_few text es in cond_both (has_key text
 
 keeps_repeat : (es : List Item) (o : Option Item) → Keeps (length es) (refuse_repeat es o)
 keeps_repeat es Nothing = omega arith
-keeps_repeat es (Some e) = λ h. let z : ◌≡◌ {A = ℕ} 0 1 = cc in omega arith
+keeps_repeat es (Some e) = λ h. cc
 
 keeps_merge : (n : ℕ) (es : List Item) (o : Option Location) → length es ≤ n → Keeps n (refuse_merge es o)
 keeps_merge n es Nothing h = h
-keeps_merge n es (Some l) h = λ e. let z : ◌≡◌ {A = ℕ} 0 1 = cc in omega arith
+keeps_merge n es (Some l) h = λ e. cc
 
 keeps_dropping : (n : ℕ) (m : MergeKeyPolicy) (text : List ℕ) (es dropped : List Item) → length es ≤ n → Keeps n (dropping m text es dropped)
 keeps_dropping n Merge text es dropped h = h
