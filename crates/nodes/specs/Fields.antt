@@ -1,5 +1,7 @@
 -- What collecting asks of single nodes, and the fields that it gives.
 use Rattle.std.specs.Prelude.{ℕ, Bool, true, false, cond, not, ◌&&◌, ◌||◌, List, [], ◌∷◌, Some, None as Nothing, codes, Option}
+use Rattle.std.specs.List.{list_any}
+use Rattle.std.specs.Option.{option_or}
 use Rattle.records.specs.declared.location.Location.{Location}
 use Rattle.records.specs.declared.location.NodeOrigin.{NodeOrigin}
 use Rattle.records.specs.declared.location.NodeOrigin.TheVariants.{Direct, Alias, Merge}
@@ -114,8 +116,7 @@ abbrev pub same_key : List ℕ → Item → Item → Bool
 same_key text a b = alike (print text a.key) (print text b.key)
 
 abbrev pub has_key : List ℕ → Item → List Item → Bool
-has_key text k [] = false
-has_key text k (e ∷ es) = same_key text k e || has_key text k es
+has_key text k es = list_any (same_key text k) es
 
 -- the text of a key for a message: of one scalar that may be read as text
 abbrev pub key_text : Node → Option Place
@@ -127,8 +128,7 @@ key_text (cut c) = Nothing
 
 -- the first merge key inside a node, at any depth, in the order in which it is written
 abbrev pub or_then : Option Location → Option Location → Option Location
-or_then Nothing o = o
-or_then (Some l) o = Some l
+or_then o p = option_or o p
 
 abbrev mutual
   pub merge_in : List ℕ → Node → Option Location

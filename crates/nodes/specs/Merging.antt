@@ -1,6 +1,7 @@
 -- Merging, from the text of YAML's merge key type: each pair of a merged mapping is inserted into the current mapping,
 -- unless its key exists there; the mappings of a sequence are merged in turn.
 use Rattle.std.specs.Prelude.{◌≡◌, ℕ, ◌+◌, true, false, cond, List, [], ◌∷◌, ◌++◌, Some, None as Nothing, Ok, codes, Result}
+use Rattle.std.specs.List.{fold}
 use Rattle.records.specs.declared.location.Location.{Location}
 use Rattle.records.specs.declared.location.NodeOrigin.TheVariants.{Direct}
 use Rattle.records.specs.declared.options.MergeKeyPolicy.TheVariants.{Merge}
@@ -31,13 +32,11 @@ inserted text now e = cond (has_key text e now) now (now ++ e ∷ [])
 
 -- each pair of a mapping is
 abbrev pub merged_in : List ℕ → List Item → List Item → List Item
-merged_in text now [] = now
-merged_in text now (e ∷ es) = merged_in text (inserted text now e) es
+merged_in text now es = fold (inserted text) now es
 
 -- each of some mappings, in turn
 abbrev pub merged_all : List ℕ → List Item → List (List Item) → List Item
-merged_all text now [] = now
-merged_all text now (m ∷ ms) = merged_all text (merged_in text now m) ms
+merged_all text now ms = fold (merged_in text) now ms
 
 -- the fields of a mapping that are no merge keys, in order
 abbrev pub fields : Rules → Basis → Pairs → List Item

@@ -1,5 +1,6 @@
 -- Fingerprints: what of a node counts when nodes are compared.
 use Rattle.std.specs.Prelude.{ℕ, Bool, true, false, cond, ◌&&◌, List, [], Some, None as Nothing, codes, Option}
+use Rattle.std.specs.Option.{option_map}
 use Rattle.records.specs.declared.record.Place.{Place}
 use Rattle.records.specs.declared.tags.SfTag.{SfTag}
 use Rattle.records.specs.declared.tags.SfTag.TheVariants.{None, Int, Float, Bool as BoolTag, Null, Seq, Map, TimeStamp, Binary, String, Merge, Value, NonSpecific, Include, Degrees, Radians, Other}
@@ -106,8 +107,7 @@ abbrev pub mapping_tag : SfTag → Option (List ℕ) → Canon
 mapping_tag t raw = cond (local_map t raw) (custom (codes "!map")) (container_tag Map t raw)
 
 abbrev pub raw_bytes : List ℕ → Option Place → Option (List ℕ)
-raw_bytes text Nothing = Nothing
-raw_bytes text (Some p) = Some (bytes_at text p)
+raw_bytes text o = option_map (bytes_at text) o
 
 -- whether there is no tag
 abbrev pub untagged : SfTag → Bool

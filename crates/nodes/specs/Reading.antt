@@ -1,6 +1,7 @@
 -- Reading one node within limits: what bars it, and what that means.
 use Rattle.std.specs.Prelude.{◌≡◌, ℕ, suc, ◌+◌, ◌-◌, ◌<◌, ◌≤◌, Bool, true, false, cond, ◌↔◌, List, [], ◌∷◌, ◌++◌, length, take, Some, None, Option, nat_lt}
-use Rattle.std.specs.List.{AllByRecursion}
+use Rattle.std.specs.List.{AllByRecursion, fold}
+use Rattle.std.specs.Option.{option_or}
 use Rattle.records.specs.declared.location.Location.{Location}
 use Rattle.records.specs.declared.record.Event.{Event}
 use Rattle.records.specs.declared.record.Event.TheVariants.{Scalar, SeqStart, SeqEnd, MapStart, MapEnd, RecursiveAlias}
@@ -21,8 +22,7 @@ refusal why l = record { reason = why; location = l; offset = 0 }
 
 -- the location of the last of some records, that follow one at l
 abbrev pub last_in : Location → List Record → Location
-last_in l [] = l
-last_in l (r ∷ rs) = last_in r.location rs
+last_in l rs = fold (λ _ r. r.location) l rs
 
 abbrev pub ended_by : Close → Location → Refusal
 ended_by Plain l = refusal Eof l
@@ -46,8 +46,7 @@ pub record Bar : Type 0 where
   pub taken : ℕ
 
 abbrev pub or_else : Option Bar → Option Bar → Option Bar
-or_else None o = o
-or_else (Some b) o = Some b
+or_else o p = option_or o p
 
 -- where i events are taken and the next stands at k: is a slot free, do its places lie in the text, may it be opened
 abbrev pub bar_at : Reason → Mark → ℕ → Bar
@@ -110,8 +109,7 @@ opens n MapEnd = down n
 opens n (RecursiveAlias a) = n
 
 abbrev pub opened_from : ℕ → List Record → ℕ
-opened_from n [] = n
-opened_from n (r ∷ rs) = opened_from (opens n r.event) rs
+opened_from n rs = fold (λ now r. opens now r.event) n rs
 
 abbrev pub opened : List Record → ℕ
 opened es = opened_from 0 es
