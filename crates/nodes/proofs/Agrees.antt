@@ -1,5 +1,5 @@
 -- Where a node can be captured, collecting it from a source and collecting it held give the same.
-use Rattle.std.proofs.Common.{◌≡◌, ℕ, ◌+◌, ◌-◌, Bool, true, false, cond, ltb, List, ◌++◌, length, None as Nothing, Ok, Result, refl, ap, ◌∙◌, ap₂, arith}
+use Rattle.std.proofs.Common.{◌≡◌, ℕ, ◌+◌, ◌-◌, Bool, true, false, cond, ltb, List, ◌++◌, length, None as Nothing, Ok, Result, refl, ap, ◌∙◌, ap₂}
 use Rattle.records.specs.declared.refusal.Reason.TheVariants.{UnknownAlias, MergeValueNotMapOrSeqOfMaps, MergeKeyNotAllowed, EntriesFull}
 use Rattle.records.specs.declared.refusal.Refusal.{Refusal}
 use Rattle.events.specs.Meaning.{known}

@@ -1,34 +1,13 @@
 -- What the policies for repeated keys keep: over parts of a list, one field of each key, and no key is lost.
-use Rattle.std.proofs.Common.{◌≡◌, ℕ, Bool, true, false, cond, ◌||◌, List, [], ◌∷◌, ◌++◌, Ok, sym, refl, ap, ◌∙◌, subst, ap₂, ⊎_elim, append_assoc, append-nil, arith}
-use Rattle.std.proofs.lemmas.Bool.{true≢false, false≢true, cases_Bool, or_parts, or_from, or_left, or_right, cond-true, cond-false, cond_both}
+use Rattle.std.proofs.Common.{◌≡◌, ℕ, Bool, true, false, cond, ◌||◌, List, [], ◌∷◌, ◌++◌, Ok, sym, refl, ap, ◌∙◌, subst, ap₂, append_assoc, append-nil, arith}
+use Rattle.std.proofs.lemmas.Bool.{cond-true, cond-false, cond_both}
 use Rattle.nodes.specs.Fields.{Item, same_key, has_key}
 use Rattle.nodes.specs.Repeats.{firsts, not_firsts, lasts, lasts_before, head, refuse_repeat, Distinct, FirstWinsLaw, LastWinsLaw, KeysKeptOnce, ErrorAtFirstRepeat}
-use Rattle.nodes.proofs.KeyLaws.{same_key_refl, same_key_sym, has_key_append, has_key_same}
+use Rattle.std.proofs.lemmas.List.Folds.{list_any-append}
+use Rattle.nodes.proofs.KeyLaws.{same_key_refl, same_key_sym, has_key_same}
 
 cond_before : {A : Type 0} (q : Bool) (x y z : List A) → cond q (x ++ z) (y ++ z) ≡ cond q x y ++ z
-cond_before true x y z = refl
-cond_before false x y z = refl
-
-cons_parts : (e f : Item) (es fs : List Item) → e ∷ es ≡ f ∷ fs → (e ≡ f) × (es ≡ fs)
-cons_parts e f es fs h = (cc, cc)
-
-or_step : (s t p q : Bool) → ((s || (t || false)) || p) ≡ ((s || (t || false)) || q) → (s || (t || p)) ≡ (s || (t || q))
-or_step true t p q h = refl
-or_step false true p q h = refl
-or_step false false p q h = h
-
-or_skip : (s t p q : Bool) → (t ≡ true → s ≡ true) → ((s || (t || false)) || p) ≡ ((s || (t || false)) || q) → (s || p) ≡ (s || (t || q))
-or_skip true t p q f h = refl
-or_skip false true p q f h = absurd (false≢true (f refl))
-or_skip false false p q f h = h
-
-or_absorb : (s q : Bool) → (s ≡ true → q ≡ true) → q ≡ (s || q)
-or_absorb true q f = f refl
-or_absorb false q f = refl
-
-none_dropped : (q : Bool) (e : Item) (n f es : List Item) → (n ≡ [] → f ≡ es) → cond q (e ∷ n) n ≡ [] → cond q f (e ∷ f) ≡ e ∷ es
-none_dropped true e n f es g h = cc
-none_dropped false e n f es g h = ap (λ x. e ∷ x) (g h)
+cond_before q x y z = grind arith
 
 module _ (text : List ℕ) where
   pub firsts_append : (seen a b : List Item) → firsts text seen (a ++ b) ≡ firsts text seen a ++ firsts text (seen ++ a) b
@@ -58,52 +37,34 @@ last_wins text a b e =
     ∙ ap (λ x. lasts_before text (e ∷ b) a ++ x) (cond_before (has_key text e b) [] (e ∷ []) (lasts text b))
 
 module _ (text : List ℕ) where
-  -- a key that is had by what is seen, and one that is not, are not the same
-  apart : (k e : Item) (seen : List Item) → has_key text k seen ≡ true → has_key text e seen ≡ false → same_key text k e ≡ false
-  apart k e seen h p = ⊎_elim (λ s. absurd (true≢false (sym h ∙ has_key_same text k e seen s ∙ p))) (λ s. s) (cases_Bool (same_key text k e))
-
-  has_none : (k e : Item) (a b : List Item) → has_key text k (a ++ e ∷ b) ≡ false → same_key text k e ≡ false
-  has_none k e a b h = (or_parts (same_key text k e) (has_key text k b) (or_parts (has_key text k a) _ (sym (has_key_append text k a (e ∷ b)) ∙ h)).1).0
-
   -- what is kept holds no key that was seen
   pub firsts_unseen : (k : Item) (seen es : List Item) → has_key text k seen ≡ true → has_key text k (firsts text seen es) ≡ false
   firsts_unseen k seen [] h = refl
-  firsts_unseen k seen (e ∷ es) h =
-      let r = firsts_unseen k (seen ++ e ∷ []) es (has_key_append text k seen (e ∷ []) ∙ or_left (has_key text k seen) _ h) in
-      cond_both (has_key text e seen) _ _ (λ xs. has_key text k xs ≡ false) (λ p. r) (λ p. or_from (same_key text k e) _ (apart k e seen h p) r)
+  firsts_unseen k seen (e ∷ es) h = grind (arith, firsts_unseen k (seen ++ e ∷ []) es, list_any-append (same_key text k) seen (e ∷ []), has_key_same text k e seen)
 
   pub distinct_none : Distinct text []
-  distinct_none [] b e h = absurd (cc)
-  distinct_none (x ∷ a) b e h = absurd (cc)
+  distinct_none [] b e h = cc
+  distinct_none (x ∷ a) b e h = cc
 
   pub distinct_more : (e : Item) (es : List Item) → has_key text e es ≡ false → Distinct text es → Distinct text (e ∷ es)
-  distinct_more e es h d [] b f p = let (x, y) = cons_parts e f es b p in (refl, ap₂ (has_key text) (sym x) (sym y) ∙ h)
-  distinct_more e es h d (g ∷ a) b f p =
-      let (x, y) = cons_parts e g es (a ++ f ∷ b) p in
-      let (u, v) = d a b f y in
-      (or_from (same_key text f g) (has_key text f a) (ap (same_key text f) (sym x) ∙ same_key_sym text f e ∙ has_none e f a b (ap (has_key text e) (sym y) ∙ h)) u, v)
+  distinct_more e es h d [] b f p = grind arith
+  distinct_more e es h d (g ∷ a) b f p = grind (arith, d a b f, list_any-append (same_key text e) a (f ∷ b), same_key_sym text e f)
 
   pub distinct_firsts : (seen es : List Item) → Distinct text (firsts text seen es)
   distinct_firsts seen [] = distinct_none
   distinct_firsts seen (e ∷ es) =
       let d = distinct_firsts (seen ++ e ∷ []) es in
-      let h = has_key_append text e seen (e ∷ []) ∙ or_right (has_key text e seen) _ (or_left (same_key text e e) false (same_key_refl text e)) in
+      let h : has_key text e (seen ++ e ∷ []) ≡ true = grind (arith, list_any-append (same_key text e) seen (e ∷ []), same_key_refl text e) in
       cond_both (has_key text e seen) _ _ (Distinct text) (λ p. d) (λ p. distinct_more e _ (firsts_unseen e (seen ++ e ∷ []) es h) d)
 
   -- no key is lost
   pub firsts_keys : (k : Item) (seen es : List Item) → (has_key text k seen || has_key text k (firsts text seen es)) ≡ (has_key text k seen || has_key text k es)
   firsts_keys k seen [] = refl
-  firsts_keys k seen (e ∷ es) =
-      let r = subst (λ q. (q || has_key text k (firsts text (seen ++ e ∷ []) es)) ≡ (q || has_key text k es)) (has_key_append text k seen (e ∷ [])) (firsts_keys k (seen ++ e ∷ []) es) in
-      cond_both (has_key text e seen) _ _ (λ xs. (has_key text k seen || has_key text k xs) ≡ (has_key text k seen || has_key text k (e ∷ es)))
-      (λ p. or_skip (has_key text k seen) (same_key text k e) _ _ (λ s. has_key_same text k e seen s ∙ p) r)
-      (λ p. or_step (has_key text k seen) (same_key text k e) _ _ r)
+  firsts_keys k seen (e ∷ es) = grind (arith, firsts_keys k (seen ++ e ∷ []) es, list_any-append (same_key text k) seen (e ∷ []), has_key_same text k e seen)
 
   pub lasts_keys : (k : Item) (es : List Item) → has_key text k (lasts text es) ≡ has_key text k es
   lasts_keys k [] = refl
-  lasts_keys k (e ∷ es) = cond_both (has_key text e es) _ _ (λ xs. has_key text k xs ≡ has_key text k (e ∷ es))
-      (λ p. lasts_keys k es ∙ or_absorb (same_key text k e) (has_key text k es) (λ s. has_key_same text k e es s ∙ p))
-      (λ p. ap (λ q. same_key text k e || q) (lasts_keys k es))
+  lasts_keys k (e ∷ es) = grind (arith, lasts_keys k es, has_key_same text k e es)
 
   pub distinct_lasts : (es : List Item) → Distinct text (lasts text es)
   distinct_lasts [] = distinct_none
@@ -122,7 +83,7 @@ module _ (text : List ℕ) where
 
   pub kept_firsts : (seen es : List Item) → not_firsts text seen es ≡ [] → firsts text seen es ≡ es
   kept_firsts seen [] h = refl
-  kept_firsts seen (e ∷ es) h = none_dropped (has_key text e seen) e _ _ es (kept_firsts (seen ++ e ∷ []) es) h
+  kept_firsts seen (e ∷ es) h = grind (arith, kept_firsts (seen ++ e ∷ []) es)
 
   pub kept_distinct : (es : List Item) → not_firsts text [] es ≡ [] → Distinct text es
   kept_distinct es h = subst (Distinct text) (kept_firsts [] es h) (distinct_firsts [] es)

@@ -1,5 +1,6 @@
 -- What an accepted collection of a held mapping brings: the mapping with its merges resolved.
 use Rattle.std.proofs.Common.{◌≡◌, ℕ, ◌+◌, true, false, ltb, List, [], ◌∷◌, ◌++◌, Ok, Result, sym, refl, ap, ◌∙◌, subst, ⊎_elim}
+use Rattle.std.proofs.lemmas.List.Sums.{fold-append}
 use Rattle.std.proofs.lemmas.Bool.{false≢true, cases_Bool, and_parts, cond-true, cond-false}
 use Rattle.records.specs.declared.location.Location.{Location}
 use Rattle.records.specs.declared.location.NodeOrigin.{NodeOrigin}
@@ -15,13 +16,13 @@ use Rattle.nodes.specs.Fields.Basis.{direct, expansion}
 use Rattle.nodes.specs.Repeats.{kept_by}
 use Rattle.nodes.specs.Collect.{Stop, Gathered, and_then, unknown_at, closed, as_field, as_merge, gather, merge_value, elements, expand}
 use Rattle.nodes.specs.Collect.Stand.{held}
-use Rattle.nodes.specs.Merging.{effective, merged_in, merged_all, fields, Resolves, Merges, StandsFor, StandFor}
+use Rattle.nodes.specs.Merging.{effective, inserted, merged_in, merged_all, fields, Resolves, Merges, StandsFor, StandFor}
 use Rattle.nodes.specs.Merging.Resolves.{resolves}
 use Rattle.nodes.specs.Merging.Merges.{no_more, plain, merge}
 use Rattle.nodes.specs.Merging.StandsFor.{null, reference, itself, each}
 use Rattle.nodes.specs.Merging.StandFor.{ended, element}
 use Rattle.nodes.proofs.Stops.{ok_same, then_made, after_made, at_made, stop_with_made, cond_made, by_merge}
-use Rattle.nodes.proofs.Inserting.{mergedIn-++, mergedAll-++, effective-++, merged_in_effective}
+use Rattle.nodes.proofs.Inserting.{effective-++, merged_in_effective}
 
 -- the reference of an element is its own reference again, once it is expanded with it
 reference_again : (b : Basis) (n : Node) → reference_at (expansion (reference_at b n)) n ≡ reference_at b n
@@ -60,7 +61,7 @@ module _ (R : Rules) where
   brings_both {S} {T} {U} {xs} {ys} f p q = record {
     ms = p.ms ++ q.ms;
     stands = f p.ms q.ms p.stands q.stands;
-    same = λ now. mergedIn-++ R.text now xs ys ∙ q.same _ ∙ ap (λ m. merged_all R.text m q.ms) (p.same now) ∙ sym (mergedAll-++ R.text now p.ms q.ms);
+    same = λ now. fold-append (inserted R.text) now xs ys ∙ q.same _ ∙ ap (λ m. merged_all R.text m q.ms) (p.same now) ∙ sym (fold-append (merged_in R.text) now p.ms q.ms);
   }
 
   brings_each : {b : Basis} {k : Mark} {h : Head} {ns : Nodes} {new : List Item} → Brings R (StandFor R b ns) new → Brings R (StandsFor R b (seq k h ns)) new
