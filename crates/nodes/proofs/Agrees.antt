@@ -49,7 +49,7 @@ module _ (R : Rules) (l : Limits) (defers : Bool) where
         let (p, q) = neither (start_at l d i k (seq_event x)) _ h in
         after_yes _ _ (ap (bar_stop true i) p) ∙ elements_same b (d - 1) u (i + 1) ns q
     value_same b d u i (dict k x ps) h = after_yes _ _ (ap (bar_stop true i) h)
-    value_same b d u i (cut c) h = absurd (cc)
+    value_same b d u i (cut c) h = cc
 
     pub elements_same : (b : Basis) (d u i : ℕ) (ns : Nodes) → barss l d i ns ≡ Nothing → elements R b (live l d) defers u i ns ≡ elements R b held defers u i ns
     elements_same b d u i (none k) h = after_yes _ _ (ap (bar_stop true i) h)

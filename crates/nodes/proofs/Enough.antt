@@ -1,6 +1,6 @@
 -- No more fields are collected than there are places, or records in a whole node, for which as many places are enough.
 use Rattle.std.proofs.Common.{◌≡◌, ℕ, suc, ◌+◌, ◌<◌, ◌≤◌, Bool, true, false, cond, ltb, List, [], ◌++◌, length, Some, None as Nothing, Ok, Err, Option, Result, subst, arith, length-append}
-use Rattle.std.proofs.lemmas.Bool.{false≢true, and_parts, cond_both, ltb-true, ltb-false}
+use Rattle.std.proofs.lemmas.Bool.{and_parts, cond_both, ltb-true, ltb-false}
 use Rattle.records.specs.declared.location.Location.{Location}
 use Rattle.records.specs.declared.options.MergeKeyPolicy.{MergeKeyPolicy}
 use Rattle.records.specs.declared.options.MergeKeyPolicy.TheVariants.{Merge, AsOrdinary, Error as NoMerges}
@@ -153,8 +153,8 @@ module _ (R : Rules) where
     value-within b s defers u i (dict k h ps) =
         within-after length (wholep ps) u (suc (sizep ps)) (captured true s i (dict k h ps)) _ (λ y. unfull_captured true s i (dict k h ps) y)
         (within-at length (wholep ps) u (suc (sizep ps)) _ _ (mapping_within (wholep ps) u (sizep ps) (suc (sizep ps)) 0 _ (omega arith) (gather-within _ held false u 0 ps)))
-    value-within b s defers u i (cut ended) = λ y. absurd (false≢true y)
-    value-within b s defers u i (cut (stray k e r)) = λ y. absurd (false≢true y)
+    value-within b s defers u i (cut ended) = λ y. cc
+    value-within b s defers u i (cut (stray k e r)) = λ y. cc
 
     elements-within : (b : Basis) (s : Stand) (defers : Bool) (u i : ℕ) (ns : Nodes) → Within length (wholes ns) u (sizes ns) (elements R b s defers u i ns)
     elements-within b s defers u i (none k) = within-after length true u 1 (slot_for s i k) _ (λ y. unfull_slot s i k) (within_none true u 1)
@@ -188,7 +188,7 @@ module _ (R : Rules) where
   collected_within b s defers missing (dict k h ps) =
       within-after length (wholep ps) 0 (suc (sizep ps)) (start_for s 0 k (map_event h)) _ (λ y. unfull_start s 0 k (map_event h))
       (mapping_within (wholep ps) 0 (sizep ps) (suc (sizep ps)) _ _ (omega arith) (gather-within b (inner s) defers 0 1 ps))
-  collected_within b s defers missing (cut ended) = λ y. absurd (false≢true y)
+  collected_within b s defers missing (cut ended) = λ y. cc
   collected_within b s defers missing (cut (stray k e r)) = λ y room. value_other
 
   roomy : (w : Bool) (n : ℕ) (r : Result (List Item) Stop) → Within length w 0 n r → w ≡ true → n ≤ R.places → Full r → ⊥

@@ -1,7 +1,7 @@
 -- What the search for merge keys finds: none, or the first, which is one of the node's records.
 use Rattle.std.proofs.Common.{◌≡◌, ℕ, suc, ◌+◌, ◌<◌, ◌≤◌, true, false, ◌⊎◌, ◌↔◌, List, [], ◌∷◌, drop, Some, None as Nothing, Option, sym, refl, ap, ◌∙◌, subst, inl, inr, ⊎_elim, arith}
 use Rattle.std.proofs.lemmas.List.{drop-drop}
-use Rattle.std.proofs.lemmas.Bool.{false≢true, and_parts, cond_both, both_ways}
+use Rattle.std.proofs.lemmas.Bool.{and_parts, cond_both}
 use Rattle.records.specs.declared.location.Location.{Location}
 use Rattle.records.specs.declared.record.Record.{Record}
 use Rattle.events.specs.Meaning.{own_at}
@@ -52,10 +52,10 @@ module _ (text : List ℕ) where
 
   key_first : (k : Node) (r : List Record) → is_merge text k ≡ true → KeyAt text (flat k r) 0 (place k)
   key_first (scalar k x) r m = record { mark = k; words = x; rest = r; is = refl; stands = refl; merges = m }
-  key_first (alias k a) r m = absurd (false≢true m)
-  key_first (seq k h ns) r m = absurd (false≢true m)
-  key_first (dict k h ps) r m = absurd (false≢true m)
-  key_first (cut c) r m = absurd (false≢true m)
+  key_first (alias k a) r m = cc
+  key_first (seq k h ns) r m = cc
+  key_first (dict k h ps) r m = cc
+  key_first (cut c) r m = cc
 
   key_deeper : (e : Record) (es : List Record) {n : ℕ} {l : Location} → KeyAt text es n l → KeyAt text (e ∷ es) (suc n) l
   key_deeper e es p = record { mark = p.mark; words = p.words; rest = p.rest; is = p.is; stands = p.stands; merges = p.merges }
@@ -88,10 +88,10 @@ module _ (text : List ℕ) where
 
   key_size : (k : Node) → is_merge text k ≡ true → 0 < size k
   key_size (scalar k x) m = omega arith
-  key_size (alias k a) m = absurd (false≢true m)
-  key_size (seq k h ns) m = absurd (false≢true m)
-  key_size (dict k h ps) m = absurd (false≢true m)
-  key_size (cut c) m = absurd (false≢true m)
+  key_size (alias k a) m = cc
+  key_size (seq k h ns) m = cc
+  key_size (dict k h ps) m = cc
+  key_size (cut c) m = cc
 
   mutual
     inside : {t : Node} {n : ℕ} {l : Location} → MergeAt text t n l → n < size t
@@ -127,7 +127,7 @@ module _ (text : List ℕ) where
   InPair k v ps = Either (size k) (MergeAt text k) (Either (size v) (MergeAt text v) (MergeAtp text ps))
 
   from_pair : {k v : Node} {ps : Pairs} {n : ℕ} {l : Location} → MergeAtp text (pair k v ps) n l → is_merge text k ≡ false → InPair k v ps n l
-  from_pair (key {k} m) f = absurd (both_ways (is_merge text k) f m)
+  from_pair (key {k} m) f = cc
   from_pair (in_key a) f = inl a
   from_pair (in_value {n = n} a) f = inr (n, refl, inl a)
   from_pair (behind {k} {v} {n = n} a) f = inr (size v + n, omega arith, inr (n, refl, a))
@@ -160,11 +160,11 @@ module _ (text : List ℕ) where
 -- from what is found to what there is, and back, where one place has one key
 found_none : (At : ℕ → Location → Type 0) (o : Option Location) → Finds At o → (o ≡ Nothing) ↔ ((n : ℕ) (l : Location) → At n l → ⊥)
 found_none At Nothing f = (λ e. f, λ h. refl)
-found_none At (Some l) (n, a, least) = (λ e. absurd (cc), λ h. absurd (h n l a))
+found_none At (Some l) (n, a, least) = (λ e. cc, λ h. absurd (h n l a))
 
 found_first : (At : ℕ → Location → Type 0) (o : Option Location) → ((n : ℕ) (l p : Location) → At n l → At n p → l ≡ p) → Finds At o → (l : Location)
     → (o ≡ Some l) ↔ ((n : ℕ) × At n l × ((m : ℕ) (p : Location) → At m p → n ≤ m))
-found_first At Nothing once f l = (λ e. absurd (cc), λ (n, a, least). absurd (f n l a))
+found_first At Nothing once f l = (λ e. cc, λ (n, a, least). absurd (f n l a))
 found_first At (Some p) once (n, a, least) l = (
   λ e. let q : p ≡ l = cc in subst (λ x. (n : ℕ) × At n x × ((m : ℕ) (p : Location) → At m p → n ≤ m)) q (n, a, least),
   λ (m, b, first). let x = least m l b in let y = first n p a in let e : n ≡ m = omega arith in ap Some (once m p l (subst (λ j. At j p) e a) b),

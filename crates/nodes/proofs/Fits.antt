@@ -1,7 +1,7 @@
 -- A node is barred by nothing exactly where it is whole and fits.
 use Rattle.std.proofs.Common.{◌≡◌, ℕ, ◌+◌, ◌-◌, ◌<◌, ◌≤◌, Bool, true, false, cond, ltb, List, [], Some, None, Option, refl, ap₂, arith}
 use Rattle.std.specs.List.{AllByRecursion}
-use Rattle.std.proofs.lemmas.Bool.{false≢true, ltb-true, lt-ltb, and_parts, and_from, cond-true}
+use Rattle.std.proofs.lemmas.Bool.{ltb-true, lt-ltb, and_parts, and_from, cond-true}
 use Rattle.records.specs.declared.record.Event.{Event}
 use Rattle.records.specs.declared.record.Record.{Record}
 use Rattle.records.specs.Places.{placed}
@@ -14,11 +14,11 @@ use Rattle.nodes.specs.Reading.{Limits, Bar, or_else, slot_at, place_at, open_at
 -- questions that are answered with yes
 pub yes_from : (q : Bool) (b : Bar) → cond q None (Some b) ≡ None → q ≡ true
 yes_from true b h = refl
-yes_from false b h = absurd (cc)
+yes_from false b h = cc
 
 pub neither : (a b : Option Bar) → or_else a b ≡ None → (a ≡ None) × (b ≡ None)
 neither None b h = (refl, h)
-neither (Some x) b h = absurd (cc)
+neither (Some x) b h = cc
 
 neither_from : (a b : Option Bar) → a ≡ None → b ≡ None → or_else a b ≡ None
 neither_from a b p q = ap₂ or_else p q
@@ -78,7 +78,7 @@ module _ (l : Limits) where
         let s = start_free d i k (map_event h') a in
         let p = passedp (d - 1) (i + 1) ps b in
         record { whole = p.whole; short = omega arith; low = omega arith; inside = λ r q. (s.lies, p.inside r q) }
-    passed d i (cut c) h = absurd (cc)
+    passed d i (cut c) h = cc
 
     pub passeds : (d i : ℕ) (ns : Nodes) → barss l d i ns ≡ None → Passed d i (wholes ns) (sizes ns) (depths ns) (flats ns)
     passeds d i (none k) h = let f = slot_free i k h in record { whole = refl; short = omega arith; low = omega arith; inside = λ r p. (refl, p) }
@@ -109,7 +109,7 @@ module _ (l : Limits) where
     unbarred d i (dict k h' ps) r w s h p =
         let (a, b) = unbarredp (d - 1) (i + 1) ps r w (omega arith) (omega arith) p.1 in
         (neither_from _ _ (start_from d i k (map_event h') (omega arith) p.0 (omega arith)) a, b)
-    unbarred d i (cut c) r w s h p = absurd (false≢true w)
+    unbarred d i (cut c) r w s h p = cc
 
     pub unbarreds : (d i : ℕ) (ns : Nodes) (r : List Record) → wholes ns ≡ true → i + sizes ns ≤ l.room → depths ns ≤ d → AllByRecursion Lies (flats ns r) → (barss l d i ns ≡ None) × AllByRecursion Lies r
     unbarreds d i (none k) r w s h p = (slot_from i k (omega arith), p.1)

@@ -1,7 +1,7 @@
 -- The records of a node: how many they are, and what stands behind them.
 use Rattle.std.proofs.Common.{◌≡◌, ◌+◌, ◌<◌, true, false, List, [], ◌∷◌, ◌++◌, length, take, drop, refl, ap, ◌∙◌, ⊎_elim, arith}
 use Rattle.std.proofs.lemmas.List.{take_at, drop_at}
-use Rattle.std.proofs.lemmas.Bool.{true≢false, false≢true, and_parts, and_cases}
+use Rattle.std.proofs.lemmas.Bool.{and_parts, and_cases}
 use Rattle.records.specs.declared.record.Event.TheVariants.{RecursiveAlias}
 use Rattle.records.specs.declared.record.Record.{Record}
 use Rattle.nodes.specs.Tree.{Node, Nodes, Pairs, rec, scalar_event, seq_event, map_event, flat, flats, flatp, size, sizes, sizep, whole, wholes, wholep}
@@ -17,7 +17,7 @@ mutual
   flat_behind (alias k a) r x w = refl
   flat_behind (seq k h ns) r x w = ap (λ l. rec k (seq_event h) ∷ l) (flats_behind ns r x w)
   flat_behind (dict k h ps) r x w = ap (λ l. rec k (map_event h) ∷ l) (flatp_behind ps r x w)
-  flat_behind (cut c) r x w = absurd (false≢true w)
+  flat_behind (cut c) r x w = cc
 
   pub flats_behind : (ns : Nodes) (r x : List Record) → wholes ns ≡ true → flats ns (r ++ x) ≡ flats ns r ++ x
   flats_behind (none k) r x w = refl
@@ -48,7 +48,7 @@ mutual
   size_flat (alias k a) r w = omega arith
   size_flat (seq k h ns) r w = omega (arith, size_flats ns r w)
   size_flat (dict k h ps) r w = omega (arith, size_flatp ps r w)
-  size_flat (cut c) r w = absurd (false≢true w)
+  size_flat (cut c) r w = cc
 
   pub size_flats : (ns : Nodes) (r : List Record) → wholes ns ≡ true → length (flats ns r) ≡ sizes ns + length r
   size_flats (none k) r w = omega arith
@@ -69,7 +69,7 @@ size_some (scalar k y) w = omega arith
 size_some (alias k a) w = omega arith
 size_some (seq k h ns) w = omega arith
 size_some (dict k h ps) w = omega arith
-size_some (cut c) w = absurd (false≢true w)
+size_some (cut c) w = cc
 
 length_flat : (t : Node) → whole t ≡ true → length (flat t []) ≡ size t
 length_flat t w = let e = size_flat t [] w in omega arith
@@ -92,23 +92,23 @@ flat_headed (scalar k y) r w = record { first = rec k (scalar_event y); rest = r
 flat_headed (alias k a) r w = record { first = rec k (RecursiveAlias a); rest = r; is = refl; no_end = refl }
 flat_headed (seq k h ns) r w = record { first = rec k (seq_event h); rest = flats ns r; is = refl; no_end = refl }
 flat_headed (dict k h ps) r w = record { first = rec k (map_event h); rest = flatp ps r; is = refl; no_end = refl }
-flat_headed (cut c) r w = absurd (false≢true w)
+flat_headed (cut c) r w = cc
 
 -- what stands behind a node that breaks off is not read
 mutual
   pub flat_broken : (t : Node) (r s : List Record) → whole t ≡ false → flat t r ≡ flat t s
-  flat_broken (scalar k y) r s w = absurd (true≢false w)
-  flat_broken (alias k a) r s w = absurd (true≢false w)
+  flat_broken (scalar k y) r s w = cc
+  flat_broken (alias k a) r s w = cc
   flat_broken (seq k h ns) r s w = ap (λ l. rec k (seq_event h) ∷ l) (flats_broken ns r s w)
   flat_broken (dict k h ps) r s w = ap (λ l. rec k (map_event h) ∷ l) (flatp_broken ps r s w)
   flat_broken (cut c) r s w = refl
 
   pub flats_broken : (ns : Nodes) (r s : List Record) → wholes ns ≡ false → flats ns r ≡ flats ns s
-  flats_broken (none k) r s w = absurd (true≢false w)
+  flats_broken (none k) r s w = cc
   flats_broken (more n ns) r s w = ⊎_elim (λ a. flat_broken n (flats ns r) (flats ns s) a) (λ b. ap (flat n) (flats_broken ns r s b)) (and_cases (whole n) (wholes ns) w)
 
   pub flatp_broken : (ps : Pairs) (r s : List Record) → wholep ps ≡ false → flatp ps r ≡ flatp ps s
-  flatp_broken (done k) r s w = absurd (true≢false w)
+  flatp_broken (done k) r s w = cc
   flatp_broken (pair k v ps) r s w =
       ⊎_elim (λ a. flat_broken k (flat v (flatp ps r)) (flat v (flatp ps s)) a)
       (λ w'. ap (flat k) (⊎_elim (λ b. flat_broken v (flatp ps r) (flatp ps s) b) (λ c. ap (flat v) (flatp_broken ps r s c)) (and_cases (whole v) (wholep ps) w')))

@@ -93,7 +93,7 @@ keys_kept_once text es = (distinct_firsts text [] es, distinct_lasts text es, (�
 
 not_refused : (es dropped kept : List Item) → refuse_repeat es (head dropped) ≡ Ok kept → (kept ≡ es) × (dropped ≡ [])
 not_refused es [] kept h = (cc, refl)
-not_refused es (e ∷ dropped) kept h = absurd (cc)
+not_refused es (e ∷ dropped) kept h = cc
 
 pub error_at_first_repeat : ErrorAtFirstRepeat
 error_at_first_repeat m text es = (

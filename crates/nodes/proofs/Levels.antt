@@ -69,7 +69,7 @@ module _ (l : Limits) where
         let s' = one_more s (rec k (map_event x)) (d - 1) f.free f.lies (omega (arith, s.level, f.low)) in
         let o = opened_push 0 front (rec k (map_event x)) in
         moved (pairs-taken ps s' (omega arith) b) (omega (arith, f.low)) (omega arith) (append_assoc front _ _)
-    node-taken (cut c) s h = absurd (cc)
+    node-taken (cut c) s h = cc
 
     pub nodes-taken : {d i : ℕ} {front : List Record} (ns : Nodes) → Within d i front → 0 < opened front → barss l d i ns ≡ None → Within (suc d) (i + sizes ns) (front ++ flats ns [])
     nodes-taken {d} {i} {front} (none k) s o h = one_more s (rec k SeqEnd) (suc d) (slot_free l i k h) refl (omega (arith, s.level))

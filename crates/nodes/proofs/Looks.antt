@@ -1,6 +1,5 @@
 -- What a look at a source shows of a node.
 use Rattle.std.proofs.Common.{◌≡◌, ℕ, Bool, true, false, cond, List, [], ◌∷◌, Some, None as Nothing, Ok, Err, Option, Result, refl, ap, ◌∙◌, subst}
-use Rattle.std.proofs.lemmas.Bool.{false≢true}
 use Rattle.records.specs.declared.record.Event.TheVariants.{RecursiveAlias}
 use Rattle.records.specs.declared.record.Record.{Record}
 use Rattle.records.specs.declared.refusal.Reason.TheVariants.{UnknownAlias}
@@ -32,8 +31,8 @@ shown true ks c i (seq k h ns) rest w = (rec k (seq_event h), flats ns [], refl,
 shown false ks c i (seq k h ns) rest w = (rec k (seq_event h), flats ns [], refl, refl, refl)
 shown true ks c i (dict k h ps) rest w = (rec k (map_event h), flatp ps [], refl, refl, refl)
 shown false ks c i (dict k h ps) rest w = (rec k (map_event h), flatp ps [], refl, refl, refl)
-shown true ks c i (cut x) rest w = absurd (false≢true w)
-shown false ks c i (cut x) rest w = absurd (false≢true w)
+shown true ks c i (cut x) rest w = cc
+shown false ks c i (cut x) rest w = cc
 
 pub looking_resolves : LookingResolves
 looking_resolves m t rest i w e =

@@ -1,6 +1,6 @@
 -- The one tree that some events read as, and that no other does.
 use Rattle.std.proofs.Common.{◌≡◌, ℕ, zero, suc, ◌+◌, ◌*◌, ◌<◌, true, false, cond, ◌⊎◌, List, [], ◌∷◌, length, sym, refl, ap, ◌∙◌, subst, ap₂, inl, inr, ⊎_elim, arith}
-use Rattle.std.proofs.lemmas.Bool.{true≢false, both_ways, cases_Bool, and_left, and_right, and_cases, cond-true, cond-false}
+use Rattle.std.proofs.lemmas.Bool.{cases_Bool, and_left, and_right, and_cases, cond-true, cond-false}
 use Rattle.records.specs.declared.record.Event.{Event}
 use Rattle.records.specs.declared.record.Event.TheVariants.{Scalar, SeqStart, SeqEnd, MapStart, MapEnd, RecursiveAlias}
 use Rattle.records.specs.declared.record.Record.{Record}
@@ -45,10 +45,10 @@ closed_no e y n (alias k a) h = refl
 closed_no e y n (seq k h' ns) h = refl
 closed_no e y n (dict k h' ps) h = refl
 closed_no e y n (cut ended) h = refl
-closed_no seq_end y n (cut (stray k seq_end r)) h = absurd (true≢false h)
+closed_no seq_end y n (cut (stray k seq_end r)) h = cc
 closed_no seq_end y n (cut (stray k map_end r)) h = refl
 closed_no map_end y n (cut (stray k seq_end r)) h = refl
-closed_no map_end y n (cut (stray k map_end r)) h = absurd (true≢false h)
+closed_no map_end y n (cut (stray k map_end r)) h = cc
 
 -- children from a node on, which was read with what is left: none behind it if it breaks off
 abbrev elements : Node × List Record → (List Record → Nodes × List Record) → Nodes × List Record
@@ -112,7 +112,7 @@ mutual
   read_flats (suc zero) ns r s e h = absurd (omega arith)
   read_flats (suc (suc n)) (none k) r s e h = refl
   read_flats (suc (suc n)) (more t ns) r s e h = ⊎_elim
-      (λ w. ap (λ x. elements x (nodes (suc n))) (read_flat (suc n) t (flats ns r) s.1 (λ w'. absurd (both_ways (whole t) w' w)) (omega arith))
+      (λ w. ap (λ x. elements x (nodes (suc n))) (read_flat (suc n) t (flats ns r) s.1 (λ w'. cc) (omega arith))
       ∙ elements_whole t (flats ns r) (nodes (suc n)) s.0 w
       ∙ ap (λ q. (more t q.0, q.1)) (read_flats (suc n) ns r (sounds_behind t ns s w) (λ b. e (and_right (whole t) (wholes ns) b)) (bounded (suc n) t (flats ns r) w (omega arith))))
       (λ w. let q = flat_broken t (flats ns r) [] w in
@@ -128,10 +128,10 @@ mutual
   read_flatp (suc (suc n)) (done k) r s e h = refl
   read_flatp (suc (suc n)) (pair k v ps) r s e h = ⊎_elim
       (λ w. let b = bounded (suc n) k (flat v (flatp ps r)) w (omega arith) in
-      ap (λ x. entries x (node (suc n)) (pairs (suc n))) (read_flat (suc n) k (flat v (flatp ps r)) s.1 (λ w'. absurd (both_ways (whole k) w' w)) (omega arith))
+      ap (λ x. entries x (node (suc n)) (pairs (suc n))) (read_flat (suc n) k (flat v (flatp ps r)) s.1 (λ w'. cc) (omega arith))
       ∙ entries_whole k (flat v (flatp ps r)) (node (suc n)) (pairs (suc n)) s.0 w
       ∙ ⊎_elim
-      (λ u. ap (λ y. values k y (pairs (suc n))) (read_flat (suc n) v (flatp ps r) (soundp_value k v ps s w) (λ u'. absurd (both_ways (whole v) u' u)) (omega arith))
+      (λ u. ap (λ y. values k y (pairs (suc n))) (read_flat (suc n) v (flatp ps r) (soundp_value k v ps s w) (λ u'. cc) (omega arith))
       ∙ cond-true (whole v) _ _ u
       ∙ ap (λ q. (pair k v q.0, q.1)) (read_flatp (suc n) ps r (soundp_behind k v ps s w u) (λ c. e (and_right (whole k) _ (and_right (whole v) _ c))) (bounded (suc n) v (flatp ps r) u (omega arith))))
       (λ u. let q = flat_broken v (flatp ps r) [] u in
@@ -159,7 +159,7 @@ reads_unique es t u r s h k =
     (ap (λ q. q.0) e, ap (λ q. q.1) e)
 
 pub whole_reads : (t : Node) (r : List Record) → whole t ≡ true → Reads (flat t r) t r
-whole_reads t r w = record { sound = whole_sound t w; is = refl; all = λ b. absurd (both_ways (whole t) b w) }
+whole_reads t r w = record { sound = whole_sound t w; is = refl; all = λ b. cc }
 
 pub unique_reading : UniqueReading
 unique_reading t u r s v w e = reads_unique (flat u s) t u r s (subst (λ es. Reads es t r) e (whole_reads t r v)) (whole_reads u s w)
@@ -177,12 +177,12 @@ record Readsp (es : List Record) (ps : Pairs) (rest : List Record) : Type 0 wher
 
 begin_reads : (f : List Record → Nodes × List Record) (g : List Record → Pairs × List Record) (k : Mark) (e : Event) (rs : List Record)
     → Readss rs (f rs).0 (f rs).1 → Readsp rs (g rs).0 (g rs).1 → Reads (rec k e ∷ rs) (begin f g k e rs).0 (begin f g k e rs).1
-begin_reads f g k (Scalar a t w s v) rs p q = record { sound = tt; is = refl; all = λ b. absurd (true≢false b) }
+begin_reads f g k (Scalar a t w s v) rs p q = record { sound = tt; is = refl; all = λ b. cc }
 begin_reads f g k (SeqStart a t w) rs p q = record { sound = p.sound; is = ap (λ l. rec k (SeqStart a t w) ∷ l) p.is; all = p.all }
 begin_reads f g k SeqEnd rs p q = record { sound = tt; is = refl; all = λ b. refl }
 begin_reads f g k (MapStart a t w) rs p q = record { sound = q.sound; is = ap (λ l. rec k (MapStart a t w) ∷ l) q.is; all = q.all }
 begin_reads f g k MapEnd rs p q = record { sound = tt; is = refl; all = λ b. refl }
-begin_reads f g k (RecursiveAlias a) rs p q = record { sound = tt; is = refl; all = λ b. absurd (true≢false b) }
+begin_reads f g k (RecursiveAlias a) rs p q = record { sound = tt; is = refl; all = λ b. cc }
 
 -- a node that was read is the end e, or it is not
 cut_cases : (e : End) (t : Node) → (cut_at e t ≡ false) ⊎ ((k : Mark) × (r : List Record) × (t ≡ cut (stray k e r)))
@@ -203,7 +203,7 @@ elements_reads es t r f h p = ⊎_elim
     (λ w. let q = p w in at (elements_whole t r f c w) (record {
       sound = sounds_from t (f r).0 c h.sound w q.sound;
       is = h.is ∙ ap (flat t) q.is;
-      all = λ b. q.all (⊎_elim (λ b'. absurd (both_ways (whole t) b' w)) (λ b'. b') (and_cases (whole t) (wholes (f r).0) b));
+      all = λ b. q.all (⊎_elim (λ b'. cc) (λ b'. b') (and_cases (whole t) (wholes (f r).0) b));
     }))
     (λ w. at (elements_broken t r f c w) (record {
       sound = sounds_cut t c h.sound w;
@@ -211,7 +211,7 @@ elements_reads es t r f h p = ⊎_elim
       all = λ b. refl;
     }))
     (cases_Bool (whole t)))
-    (λ x. let (k, q, e) = x in at (ap (λ u. elements (u, r) f) e) (record { sound = tt; is = h.is ∙ ap (λ u. flat u r) e; all = λ b. absurd (true≢false b) }))
+    (λ x. let (k, q, e) = x in at (ap (λ u. elements (u, r) f) e) (record { sound = tt; is = h.is ∙ ap (λ u. flat u r) e; all = λ b. cc }))
     (cut_cases seq_end t)
   where
     at : {x : Nodes × List Record} → elements (t, r) f ≡ x → Readss es x.0 x.1 → Readss es (elements (t, r) f).0 (elements (t, r) f).1
@@ -224,7 +224,7 @@ values_reads k es t r f c s w h p = ⊎_elim
     (λ u. let q = p u in at (cond-true (whole t) _ _ u) (record {
       sound = soundp_from k t (f r).0 c s w h.sound u q.sound;
       is = ap (flat k) (h.is ∙ ap (flat t) q.is);
-      all = λ b. q.all (⊎_elim (λ b'. absurd (both_ways (whole k) b' w)) (λ b'. ⊎_elim (λ b''. absurd (both_ways (whole t) b'' u)) (λ b''. b'') (and_cases (whole t) _ b')) (and_cases (whole k) _ b));
+      all = λ b. q.all (⊎_elim (λ b'. cc) (λ b'. ⊎_elim (λ b''. cc) (λ b''. b'') (and_cases (whole t) _ b')) (and_cases (whole k) _ b));
     }))
     (λ u. at (cond-false (whole t) _ _ u) (record {
       sound = soundp_cut_value k t c s w h.sound u;
@@ -248,7 +248,7 @@ entries_reads es t r g f h p q = ⊎_elim
       all = λ b. refl;
     }))
     (cases_Bool (whole t)))
-    (λ x. let (k, s, e) = x in at (ap (λ u. entries (u, r) g f) e) (record { sound = tt; is = h.is ∙ ap (λ u. flat u r) e; all = λ b. absurd (true≢false b) }))
+    (λ x. let (k, s, e) = x in at (ap (λ u. entries (u, r) g f) e) (record { sound = tt; is = h.is ∙ ap (λ u. flat u r) e; all = λ b. cc }))
     (cut_cases map_end t)
   where
     at : {x : Pairs × List Record} → entries (t, r) g f ≡ x → Readsp es x.0 x.1 → Readsp es (entries (t, r) g f).0 (entries (t, r) g f).1

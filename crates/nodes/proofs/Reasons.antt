@@ -2,7 +2,7 @@
 use Rattle.std.proofs.Common.{◌≡◌, ℕ, suc, ◌+◌, ◌<◌, ◌≤◌, true, false, List, [], ◌∷◌, ◌++◌, length, take, Some, None, Option, sym, refl, ap, ◌∙◌, subst, subst₂, append_assoc, append-nil, arith, length-append}
 use lib.Seq.{take-append-add}
 use Rattle.std.specs.List.{AllByRecursion}
-use Rattle.std.proofs.lemmas.Bool.{false≢true, both_ways}
+use Rattle.std.proofs.lemmas.Bool.{both_ways}
 use Rattle.records.specs.declared.record.Event.{Event}
 use Rattle.records.specs.declared.record.Event.TheVariants.{Scalar, SeqStart, SeqEnd, MapStart, MapEnd, RecursiveAlias}
 use Rattle.records.specs.declared.record.Record.{Record}
@@ -94,12 +94,12 @@ all_at P [] r ys h = h.0
 all_at P (x ∷ xs) r ys h = all_at P xs r ys h.1
 
 opens_start : (n : ℕ) (e : Event) → is_start e ≡ true → opens n e ≡ suc n
-opens_start n (Scalar a t w s v) h = absurd (false≢true h)
+opens_start n (Scalar a t w s v) h = cc
 opens_start n (SeqStart a t w) h = refl
-opens_start n SeqEnd h = absurd (false≢true h)
+opens_start n SeqEnd h = cc
 opens_start n (MapStart a t w) h = refl
-opens_start n MapEnd h = absurd (false≢true h)
-opens_start n (RecursiveAlias a) h = absurd (false≢true h)
+opens_start n MapEnd h = cc
+opens_start n (RecursiveAlias a) h = cc
 
 -- what is taken has no cause to stop at
 stuck : (l : Limits) (front : List Record) (r : Record) (rest q : List Record) (b : Bar) → Cause l front (r ∷ rest) b → Went l (front ++ r ∷ q) → ⊥

@@ -1,7 +1,7 @@
 -- What an accepted collection of a held mapping brings: the mapping with its merges resolved.
 use Rattle.std.proofs.Common.{◌≡◌, ℕ, ◌+◌, true, false, ltb, List, [], ◌∷◌, ◌++◌, Ok, Result, sym, refl, ap, ◌∙◌, subst, ⊎_elim}
 use Rattle.std.proofs.lemmas.List.Sums.{fold-append}
-use Rattle.std.proofs.lemmas.Bool.{false≢true, cases_Bool, and_parts, cond-true, cond-false}
+use Rattle.std.proofs.lemmas.Bool.{cases_Bool, and_parts, cond-true, cond-false}
 use Rattle.records.specs.declared.location.Location.{Location}
 use Rattle.records.specs.declared.location.NodeOrigin.{NodeOrigin}
 use Rattle.records.specs.declared.location.NodeOrigin.TheVariants.{Direct, Alias, Merge as MergeOrigin}
@@ -115,7 +115,7 @@ module _ (R : Rules) (merging : R.merges ≡ Merge) where
     valued (dict k x ps) b u i new w h =
         let (g, p, q) = then_made _ _ _ (at_made _ _ _ h) in
         brings_one R (itself (closed_resolves _ ps 0 g new (gathered ps _ u 0 g w p) q))
-    valued (cut c) b u i new w h = absurd (false≢true w)
+    valued (cut c) b u i new w h = cc
 
     brought : (ns : Nodes) (b : Basis) (u i : ℕ) (new : List Item) → wholes ns ≡ true → elements R b held false u i ns ≡ Ok new → Brings R (StandFor R b ns) new
     brought (none k) b u i new w h = brings_none R ended (ok_same h)
@@ -133,7 +133,7 @@ module _ (R : Rules) (merging : R.merges ≡ Merge) where
     expanded (dict k x ps) l u new w r h =
         let (g, p, q) = then_made _ _ _ h in
         brings_one R (itself (subst (λ o. Resolves R (expansion o) ps (effective R.text new)) (sym r) (closed_resolves (expansion l) ps 0 g new (gathered ps (expansion l) u 0 g w p) q)))
-    expanded (cut c) l u new w r h = absurd (false≢true w)
+    expanded (cut c) l u new w r h = cc
 
 -- what a mapping, its merges merged, is collected to
 pub merges_resolved : (R : Rules) (b : Basis) (ps : Pairs) (es : List Item) → wholep ps ≡ true → R.merges ≡ Merge

@@ -1,6 +1,6 @@
 -- Sound trees: their children behind a node, and that whole trees are sound.
 use Rattle.std.proofs.Common.{◌≡◌, Bool, true, false, cond, sym, refl, subst}
-use Rattle.std.proofs.lemmas.Bool.{false≢true, and_parts}
+use Rattle.std.proofs.lemmas.Bool.{and_parts}
 use Rattle.nodes.specs.Tree.{End, Node, Nodes, Pairs, whole, wholes, wholep, cut_at, no_nodes, no_pairs, Sound, Sounds, Soundp}
 use Rattle.nodes.specs.Tree.Node.{scalar, alias, seq, dict, cut}
 use Rattle.nodes.specs.Tree.End.{seq_end, map_end}
@@ -59,7 +59,7 @@ whole_uncut e (scalar k x) w = refl
 whole_uncut e (alias k a) w = refl
 whole_uncut e (seq k h ns) w = refl
 whole_uncut e (dict k h ps) w = refl
-whole_uncut e (cut c) w = absurd (false≢true w)
+whole_uncut e (cut c) w = cc
 
 mutual
   pub whole_sound : (t : Node) → whole t ≡ true → Sound t
@@ -67,7 +67,7 @@ mutual
   whole_sound (alias k a) w = tt
   whole_sound (seq k h ns) w = whole_sounds ns w
   whole_sound (dict k h ps) w = whole_soundp ps w
-  whole_sound (cut c) w = absurd (false≢true w)
+  whole_sound (cut c) w = cc
 
   pub whole_sounds : (ns : Nodes) → wholes ns ≡ true → Sounds ns
   whole_sounds (none k) w = tt

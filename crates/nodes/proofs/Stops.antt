@@ -12,7 +12,7 @@ ok_same h = cc
 
 pub cond_made : {B E : Type 0} (q : Bool) (r : Result B E) (e : E) {y : B} → cond q r (Err e) ≡ Ok y → (q ≡ true) × (r ≡ Ok y)
 cond_made true r e h = (refl, h)
-cond_made false r e h = absurd (cc)
+cond_made false r e h = cc
 
 pub by_merge : {A : Type 0} (m : MergeKeyPolicy) (x y z : A) {r : A} → m ≡ Merge → by_policy m x y z ≡ r → x ≡ r
 by_merge m x y z e h = rw e at h
@@ -27,7 +27,7 @@ module _ {A B : Type 0} where
 
   pub then_made : (r : Result A Stop) (f : A → Result B Stop) (y : B) → and_then r f ≡ Ok y → (x : A) × (r ≡ Ok x) × (f x ≡ Ok y)
   then_made (Ok x) f y e = (x, refl, e)
-  then_made (Err s) f y e = absurd (cc)
+  then_made (Err s) f y e = cc
 
 module _ {B : Type 0} where
   -- a question that is answered with yes
@@ -36,15 +36,15 @@ module _ {B : Type 0} where
 
   pub after_made : (o : Option Stop) (r : Result B Stop) (y : B) → after o r ≡ Ok y → (o ≡ Nothing) × (r ≡ Ok y)
   after_made Nothing r y e = (refl, e)
-  after_made (Some s) r y e = absurd (cc)
+  after_made (Some s) r y e = cc
 
   pub at_made : (n : ℕ) (r : Result B Stop) (y : B) → at n r ≡ Ok y → r ≡ Ok y
   at_made n (Ok x) y e = e
-  at_made n (Err s) y e = absurd (cc)
+  at_made n (Err s) y e = cc
 
   pub stop_with_made : (n : ℕ) (r : Result B Refusal) (y : B) → stop_with n r ≡ Ok y → r ≡ Ok y
   stop_with_made n (Ok x) y e = cc
-  stop_with_made n (Err s) y e = absurd (cc)
+  stop_with_made n (Err s) y e = cc
 
 -- what holds of whatever is answered
 abbrev pub Gives : {A E : Type 0} → Result A E → (A → Type 0) → Type 0
@@ -59,7 +59,7 @@ module _ {B : Type 0} (P : B → Type 0) where
   gives_ok x p y e = subst P (cc) p
 
   pub gives_err : {E : Type 0} (s : E) → Gives (Err s) P
-  gives_err s y e = absurd (cc)
+  gives_err s y e = cc
 
   pub gives_stopped : (why : Reason) (l : Location) (n : ℕ) → Gives (stopped why l n) P
   gives_stopped why l n = gives_err _

@@ -49,13 +49,13 @@ module _ (m : Meaning) (h : m.deferring ≡ true) where
 
   none_from : (es : List Record) (c : Close) → front true m.anchors c es ≡ Ok None → (es ≡ []) × (c ≡ Plain)
   none_from [] Plain q = (refl, refl)
-  none_from [] (Fault f) q = absurd (cc)
-  none_from (x ∷ es) c q = absurd (cc)
+  none_from [] (Fault f) q = cc
+  none_from (x ∷ es) c q = cc
 
   fault_from : (es : List Record) (c : Close) (f : Refusal) → front true m.anchors c es ≡ Err f → (es ≡ []) × (c ≡ Fault f)
-  fault_from [] Plain f q = absurd (cc)
+  fault_from [] Plain f q = cc
   fault_from [] (Fault g) f q = (refl, cc)
-  fault_from (x ∷ es) c f q = absurd (cc)
+  fault_from (x ∷ es) c f q = cc
 
   as_deferring : {x : Result (Option Record) Refusal} → peeked m ≡ x → front true m.anchors m.close m.events ≡ x
   as_deferring q = ap (λ d. front d m.anchors m.close m.events) (sym h) ∙ q

@@ -1,7 +1,7 @@
 -- The test says of any two prints whether they are alike.
-use Rattle.std.proofs.Common.{◌≡◌, Bool, true, false, cond, ◌&&◌, Some, None as Nothing, Option, refl, ap, ◌∙◌, subst, arith}
+use Rattle.std.proofs.Common.{◌≡◌, Bool, true, false, cond, ◌&&◌, Some, None as Nothing, Option, refl, ap, ◌∙◌, subst}
 use Rattle.std.proofs.lemmas.Option.{same_Some}
-use Rattle.std.proofs.lemmas.Bool.{and_parts, and_from, false≢true}
+use Rattle.std.proofs.lemmas.Bool.{and_parts, and_from}
 use Rattle.nodes.specs.Prints.{Print, Prints, PrintPairs}
 use Rattle.nodes.specs.Prints.Print.{leaf, sequence, mapping}
 use Rattle.nodes.specs.Prints.Prints.{end, then}

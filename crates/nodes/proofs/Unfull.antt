@@ -1,6 +1,6 @@
 -- What bars a whole node, and what refuses its keys, is no want of an entry place.
 use Rattle.std.proofs.Common.{◌≡◌, ℕ, suc, ◌+◌, ◌-◌, ◌≤◌, Bool, true, false, cond, ltb, List, [], ◌∷◌, ◌++◌, reverse, length, Some, None as Nothing, Ok, Err, Option, Result, arith}
-use Rattle.std.proofs.lemmas.Bool.{false≢true, and_parts, cond_both}
+use Rattle.std.proofs.lemmas.Bool.{and_parts, cond_both}
 use Rattle.records.specs.declared.location.Location.{Location}
 use Rattle.records.specs.declared.options.MergeKeyPolicy.{MergeKeyPolicy}
 use Rattle.records.specs.declared.options.MergeKeyPolicy.TheVariants.{Merge, AsOrdinary, Error as NoMerges}
@@ -58,7 +58,7 @@ module _ (l : Limits) where
     bars-asked d i (alias k a) w = slot_asked i k
     bars-asked d i (seq k h ns) w = passable_or (start_at l d i k (seq_event h)) _ (start_asked d i k (seq_event h)) (barss-asked (d - 1) (i + 1) ns w)
     bars-asked d i (dict k h ps) w = passable_or (start_at l d i k (map_event h)) _ (start_asked d i k (map_event h)) (barsp-asked (d - 1) (i + 1) ps w)
-    bars-asked d i (cut c) w = absurd (false≢true w)
+    bars-asked d i (cut c) w = cc
 
     barss-asked : (d i : ℕ) (ns : Nodes) → wholes ns ≡ true → Passable (barss l d i ns)
     barss-asked d i (none k) w = slot_asked i k

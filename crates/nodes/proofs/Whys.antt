@@ -22,7 +22,7 @@ use Rattle.nodes.proofs.Levels.{Within, none_taken, one_more, node-taken}
 
 -- the first question that is answered with no
 no_from : (q : Bool) (x b : Bar) → cond q None (Some x) ≡ Some b → (q ≡ false) × (x ≡ b)
-no_from true x b h = absurd (cc)
+no_from true x b h = cc
 no_from false x b h = (refl, cc)
 
 either : (a b : Option Bar) (c : Bar) → or_else a b ≡ Some c → (a ≡ Some c) ⊎ ((a ≡ None) × (b ≡ Some c))
