@@ -1,6 +1,7 @@
 -- A node is barred by nothing exactly where it is whole and fits.
 use Rattle.std.proofs.Common.{◌≡◌, ℕ, ◌+◌, ◌-◌, ◌<◌, ◌≤◌, Bool, true, false, cond, ltb, List, [], Some, None, Option, refl, ap₂, arith}
 use Rattle.std.specs.List.{AllByRecursion}
+use Rattle.std.proofs.lemmas.Bool.Decides.{nat_tests}
 use Rattle.std.proofs.lemmas.Bool.{ltb-true, lt-ltb, and_parts, and_from, cond-true}
 use Rattle.records.specs.declared.record.Event.{Event}
 use Rattle.records.specs.declared.record.Record.{Record}
@@ -13,12 +14,10 @@ use Rattle.nodes.specs.Reading.{Limits, Bar, or_else, slot_at, place_at, open_at
 
 -- questions that are answered with yes
 pub yes_from : (q : Bool) (b : Bar) → cond q None (Some b) ≡ None → q ≡ true
-yes_from true b h = refl
-yes_from false b h = cc
+yes_from q b h = grind arith
 
 pub neither : (a b : Option Bar) → or_else a b ≡ None → (a ≡ None) × (b ≡ None)
-neither None b h = (refl, h)
-neither (Some x) b h = cc
+neither a b h = grind arith
 
 neither_from : (a b : Option Bar) → a ≡ None → b ≡ None → or_else a b ≡ None
 neither_from a b p q = ap₂ or_else p q
@@ -28,10 +27,10 @@ module _ (l : Limits) where
   Lies r = placed l.text r.event ≡ true
 
   pub slot_free : (i : ℕ) (k : Mark) → slot_at l i k ≡ None → i < l.room
-  slot_free i k h = ltb-true i l.room (yes_from (ltb i l.room) _ h)
+  slot_free i k h = grind (arith, nat_tests)
 
   pub place_lies : (i : ℕ) (k : Mark) (e : Event) → place_at l i k e ≡ None → placed l.text e ≡ true
-  place_lies i k e h = yes_from (placed l.text e) _ h
+  place_lies i k e h = grind arith
 
   -- what a start is asked
   pub record Started (d i : ℕ) (e : Event) : Type 0 where
@@ -43,16 +42,16 @@ module _ (l : Limits) where
   start_free d i k e h =
       let (a, h') = neither (slot_at l i k) _ h in
       let (b, c) = neither (place_at l i k e) (open_at d i k) h' in
-      record { free = slot_free i k a; lies = place_lies i k e b; low = ltb-true 0 d (yes_from (ltb 0 d) _ c) }
+      record { free = slot_free i k a; lies = place_lies i k e b; low = grind (arith, nat_tests) }
 
   slot_from : (i : ℕ) (k : Mark) → i < l.room → slot_at l i k ≡ None
-  slot_from i k h = cond-true (ltb i l.room) _ _ (lt-ltb i l.room h)
+  slot_from i k h = grind (arith, nat_tests)
 
   place_from : (i : ℕ) (k : Mark) (e : Event) → placed l.text e ≡ true → place_at l i k e ≡ None
-  place_from i k e h = cond-true (placed l.text e) _ _ h
+  place_from i k e h = grind arith
 
   start_from : (d i : ℕ) (k : Mark) (e : Event) → i < l.room → placed l.text e ≡ true → 0 < d → start_at l d i k e ≡ None
-  start_from d i k e f p h = neither_from _ _ (slot_from i k f) (neither_from _ _ (place_from i k e p) (cond-true (ltb 0 d) _ _ (lt-ltb 0 d h)))
+  start_from d i k e f p h = grind (arith, nat_tests)
 
   -- what a node is that nothing bars, with what stands behind it
   pub record Passed (d i : ℕ) (unbroken : Bool) (size depth : ℕ) (flat : List Record → List Record) : Type 0 where

@@ -1,5 +1,6 @@
 -- What bars a node behind others, as at the start of what is left.
 use Rattle.std.proofs.Common.{◌≡◌, ℕ, ◌+◌, ◌-◌, Bool, true, false, cond, ltb, Some, None, Option, sym, refl, ap, ◌∙◌, ap₂, ⊎_elim, add_assoc, arith}
+use Rattle.std.proofs.lemmas.Bool.Decides.{nat_tests}
 use Rattle.std.proofs.lemmas.Bool.{cases_lt, lt-ltb, le-ltb}
 use Rattle.records.specs.declared.record.Event.{Event}
 use Rattle.records.specs.declared.refusal.Reason.TheVariants.{UnexpectedContainerEnd, RackFull}
@@ -12,15 +13,13 @@ use Rattle.nodes.specs.Reading.{Limits, Bar, or_else, bar_at, slot_at, place_at,
 use Rattle.nodes.specs.Taking.{less, later}
 
 ltb_shift : (n i m : ℕ) → ltb (n + i) m ≡ ltb i (m - n)
-ltb_shift n i m = ⊎_elim (λ h. lt-ltb (n + i) m h ∙ sym (lt-ltb i (m - n) (omega arith))) (λ h. le-ltb (n + i) m h ∙ sym (le-ltb i (m - n) (omega arith))) (cases_lt (n + i) m)
+ltb_shift n i m = grind (arith, nat_tests)
 
 later_else : (n : ℕ) (a b : Option Bar) → later n (or_else a b) ≡ or_else (later n a) (later n b)
-later_else n None b = refl
-later_else n (Some x) b = refl
+later_else n a b = grind arith
 
 later_cond : (n : ℕ) (q : Bool) (b : Bar) → later n (cond q None (Some b)) ≡ cond q None (Some (record { why = b.why; taken = n + b.taken }))
-later_cond n true b = refl
-later_cond n false b = refl
+later_cond n q b = grind arith
 
 else_shift : (n : ℕ) {a b : Option Bar} (x y : Option Bar) → a ≡ later n x → b ≡ later n y → or_else a b ≡ later n (or_else x y)
 else_shift n x y p q = ap₂ or_else p q ∙ sym (later_else n x y)
@@ -28,13 +27,13 @@ else_shift n x y p q = ap₂ or_else p q ∙ sym (later_else n x y)
 -- n events having been taken, as with the limits that are left
 module _ (l : Limits) (n : ℕ) where
   slot_shift : (i : ℕ) (k : Mark) → slot_at l (n + i) k ≡ later n (slot_at (less n l) i k)
-  slot_shift i k = ap (λ q. cond q None (Some (bar_at RackFull k (n + i)))) (ltb_shift n i l.room) ∙ sym (later_cond n _ _)
+  slot_shift i k = grind (arith, nat_tests)
 
   place_shift : (i : ℕ) (k : Mark) (e : Event) → place_at l (n + i) k e ≡ later n (place_at (less n l) i k e)
-  place_shift i k e = sym (later_cond n _ _)
+  place_shift i k e = grind arith
 
   start_shift : (d i : ℕ) (k : Mark) (e : Event) → start_at l d (n + i) k e ≡ later n (start_at (less n l) d i k e)
-  start_shift d i k e = else_shift n _ _ (slot_shift i k) (else_shift n _ _ (place_shift i k e) (sym (later_cond n _ _)))
+  start_shift d i k e = grind (arith, nat_tests)
 
   mutual
     pub bars-shift : (d i : ℕ) (t : Node) → bars l d (n + i) t ≡ later n (bars (less n l) d i t)
