@@ -1,8 +1,8 @@
 -- A node is barred by nothing exactly where it is whole and fits.
-use Rattle.std.proofs.Common.{◌≡◌, ℕ, ◌+◌, ◌-◌, ◌<◌, ◌≤◌, Bool, true, false, cond, ltb, List, [], Some, None, Option, refl, ap₂, arith}
+use Rattle.std.proofs.Common.{◌≡◌, ℕ, ◌+◌, ◌-◌, ◌<◌, ◌≤◌, Bool, true, cond, List, [], Some, None, Option, refl, ap₂, arith}
 use Rattle.std.specs.List.{AllByRecursion}
 use Rattle.std.proofs.lemmas.Bool.Decides.{nat_tests}
-use Rattle.std.proofs.lemmas.Bool.{ltb-true, lt-ltb, and_parts, and_from, cond-true}
+use Rattle.std.proofs.lemmas.Bool.{and_parts, and_from}
 use Rattle.records.specs.declared.record.Event.{Event}
 use Rattle.records.specs.declared.record.Record.{Record}
 use Rattle.records.specs.Places.{placed}
@@ -102,31 +102,17 @@ module _ (l : Limits) where
     pub unbarred : (d i : ℕ) (t : Node) (r : List Record) → whole t ≡ true → i + size t ≤ l.room → depth t ≤ d → AllByRecursion Lies (flat t r) → (bars l d i t ≡ None) × AllByRecursion Lies r
     unbarred d i (scalar k x) r w s h p = (neither_from _ _ (slot_from i k (omega arith)) (place_from i k (scalar_event x) p.0), p.1)
     unbarred d i (alias k a) r w s h p = (slot_from i k (omega arith), p.1)
-    unbarred d i (seq k h' ns) r w s h p =
-        let (a, b) = unbarreds (d - 1) (i + 1) ns r w (omega arith) (omega arith) p.1 in
-        (neither_from _ _ (start_from d i k (seq_event h') (omega arith) p.0 (omega arith)) a, b)
-    unbarred d i (dict k h' ps) r w s h p =
-        let (a, b) = unbarredp (d - 1) (i + 1) ps r w (omega arith) (omega arith) p.1 in
-        (neither_from _ _ (start_from d i k (map_event h') (omega arith) p.0 (omega arith)) a, b)
+    unbarred d i (seq k h' ns) r w s h p = grind (arith, unbarreds (d - 1) (i + 1) ns r w, start_from d i k (seq_event h'))
+    unbarred d i (dict k h' ps) r w s h p = grind (arith, unbarredp (d - 1) (i + 1) ps r w, start_from d i k (map_event h'))
     unbarred d i (cut c) r w s h p = cc
 
     pub unbarreds : (d i : ℕ) (ns : Nodes) (r : List Record) → wholes ns ≡ true → i + sizes ns ≤ l.room → depths ns ≤ d → AllByRecursion Lies (flats ns r) → (barss l d i ns ≡ None) × AllByRecursion Lies r
     unbarreds d i (none k) r w s h p = (slot_from i k (omega arith), p.1)
-    unbarreds d i (more n ns) r w s h p =
-        let (u, v) = and_parts (whole n) (wholes ns) w in
-        let (a, q) = unbarred d i n (flats ns r) u (omega arith) (omega arith) p in
-        let (b, z) = unbarreds d (i + size n) ns r v (omega arith) (omega arith) q in
-        (neither_from _ _ a b, z)
+    unbarreds d i (more n ns) r w s h p = grind (arith, and_parts (whole n) (wholes ns) w, unbarred d i n (flats ns r), unbarreds d (i + size n) ns r)
 
     pub unbarredp : (d i : ℕ) (ps : Pairs) (r : List Record) → wholep ps ≡ true → i + sizep ps ≤ l.room → depthp ps ≤ d → AllByRecursion Lies (flatp ps r) → (barsp l d i ps ≡ None) × AllByRecursion Lies r
     unbarredp d i (done k) r w s h p = (slot_from i k (omega arith), p.1)
-    unbarredp d i (pair k v ps) r w s h p =
-        let (u, w') = and_parts (whole k) _ w in
-        let (u', u'') = and_parts (whole v) (wholep ps) w' in
-        let (a, p') = unbarred d i k (flat v (flatp ps r)) u (omega arith) (omega arith) p in
-        let (b, p'') = unbarred d (i + size k) v (flatp ps r) u' (omega arith) (omega arith) p' in
-        let (c, z) = unbarredp d (i + size k + size v) ps r u'' (omega arith) (omega arith) p'' in
-        (neither_from _ _ a (neither_from _ _ b c), z)
+    unbarredp d i (pair k v ps) r w s h p = grind (arith, and_parts (whole k), and_parts (whole v) (wholep ps), unbarred d i k (flat v (flatp ps r)), unbarred d (i + size k) v (flatp ps r), unbarredp d (i + size k + size v) ps r)
 
   pub fits_barred : (t : Node) → Fits l t → bars l l.deep 0 t ≡ None
   fits_barred t f = (unbarred l.deep 0 t [] f.unbroken (let s = f.short in omega arith) f.low f.inside).0

@@ -1,5 +1,5 @@
 -- The records of a node: how many they are, and what stands behind them.
-use Rattle.std.proofs.Common.{◌≡◌, ◌+◌, ◌<◌, true, false, List, [], ◌∷◌, ◌++◌, length, take, drop, refl, ap, ◌∙◌, ⊎_elim, arith}
+use Rattle.std.proofs.Common.{◌≡◌, ◌+◌, ◌<◌, true, false, List, [], ◌∷◌, ◌++◌, length, take, drop, refl, ap, ◌∙◌, arith}
 use Rattle.std.proofs.lemmas.List.{take_at, drop_at}
 use Rattle.std.proofs.lemmas.Bool.{and_parts, and_cases}
 use Rattle.records.specs.declared.record.Event.TheVariants.{RecursiveAlias}
@@ -15,22 +15,17 @@ mutual
   pub flat_behind : (t : Node) (r x : List Record) → whole t ≡ true → flat t (r ++ x) ≡ flat t r ++ x
   flat_behind (scalar k y) r x w = refl
   flat_behind (alias k a) r x w = refl
-  flat_behind (seq k h ns) r x w = ap (λ l. rec k (seq_event h) ∷ l) (flats_behind ns r x w)
-  flat_behind (dict k h ps) r x w = ap (λ l. rec k (map_event h) ∷ l) (flatp_behind ps r x w)
+  flat_behind (seq k h ns) r x w = grind (arith, flats_behind ns r x w)
+  flat_behind (dict k h ps) r x w = grind (arith, flatp_behind ps r x w)
   flat_behind (cut c) r x w = cc
 
   pub flats_behind : (ns : Nodes) (r x : List Record) → wholes ns ≡ true → flats ns (r ++ x) ≡ flats ns r ++ x
   flats_behind (none k) r x w = refl
-  flats_behind (more n ns) r x w =
-      let (a, b) = and_parts (whole n) (wholes ns) w in
-      ap (flat n) (flats_behind ns r x b) ∙ flat_behind n (flats ns r) x a
+  flats_behind (more n ns) r x w = grind (arith, and_parts (whole n) (wholes ns) w, flats_behind ns r x, flat_behind n (flats ns r) x)
 
   pub flatp_behind : (ps : Pairs) (r x : List Record) → wholep ps ≡ true → flatp ps (r ++ x) ≡ flatp ps r ++ x
   flatp_behind (done k) r x w = refl
-  flatp_behind (pair k v ps) r x w =
-      let (a, w') = and_parts (whole k) _ w in
-      let (b, c) = and_parts (whole v) (wholep ps) w' in
-      ap (λ l. flat k (flat v l)) (flatp_behind ps r x c) ∙ ap (flat k) (flat_behind v (flatp ps r) x b) ∙ flat_behind k (flat v (flatp ps r)) x a
+  flatp_behind (pair k v ps) r x w = grind (arith, and_parts (whole k), and_parts (whole v) (wholep ps), flatp_behind ps r x, flat_behind v (flatp ps r) x, flat_behind k (flat v (flatp ps r)) x)
 
 pub flat_append : (t : Node) (r : List Record) → whole t ≡ true → flat t r ≡ flat t [] ++ r
 flat_append t r w = flat_behind t [] r w
@@ -52,16 +47,11 @@ mutual
 
   pub size_flats : (ns : Nodes) (r : List Record) → wholes ns ≡ true → length (flats ns r) ≡ sizes ns + length r
   size_flats (none k) r w = omega arith
-  size_flats (more n ns) r w =
-      let (a, b) = and_parts (whole n) (wholes ns) w in
-      omega (arith, size_flat n (flats ns r) a, size_flats ns r b)
+  size_flats (more n ns) r w = grind (arith, and_parts (whole n) (wholes ns) w, size_flat n (flats ns r), size_flats ns r)
 
   pub size_flatp : (ps : Pairs) (r : List Record) → wholep ps ≡ true → length (flatp ps r) ≡ sizep ps + length r
   size_flatp (done k) r w = omega arith
-  size_flatp (pair k v ps) r w =
-      let (a, w') = and_parts (whole k) _ w in
-      let (b, c) = and_parts (whole v) (wholep ps) w' in
-      omega (arith, size_flat k (flat v (flatp ps r)) a, size_flat v (flatp ps r) b, size_flatp ps r c)
+  size_flatp (pair k v ps) r w = grind (arith, and_parts (whole k), and_parts (whole v) (wholep ps), size_flat k (flat v (flatp ps r)), size_flat v (flatp ps r), size_flatp ps r)
 
 -- a whole node has a record
 pub size_some : (t : Node) → whole t ≡ true → 0 < size t
@@ -72,7 +62,7 @@ size_some (dict k h ps) w = omega arith
 size_some (cut c) w = cc
 
 length_flat : (t : Node) → whole t ≡ true → length (flat t []) ≡ size t
-length_flat t w = let e = size_flat t [] w in omega arith
+length_flat t w = grind (arith, size_flat t)
 
 pub take_flat : (t : Node) (r : List Record) → whole t ≡ true → take (size t) (flat t r) ≡ flat t []
 take_flat t r w = ap (take (size t)) (flat_append t r w) ∙ take_at (flat t []) r (size t) (length_flat t w)
@@ -99,17 +89,14 @@ mutual
   pub flat_broken : (t : Node) (r s : List Record) → whole t ≡ false → flat t r ≡ flat t s
   flat_broken (scalar k y) r s w = cc
   flat_broken (alias k a) r s w = cc
-  flat_broken (seq k h ns) r s w = ap (λ l. rec k (seq_event h) ∷ l) (flats_broken ns r s w)
-  flat_broken (dict k h ps) r s w = ap (λ l. rec k (map_event h) ∷ l) (flatp_broken ps r s w)
+  flat_broken (seq k h ns) r s w = grind (arith, flats_broken ns r s w)
+  flat_broken (dict k h ps) r s w = grind (arith, flatp_broken ps r s w)
   flat_broken (cut c) r s w = refl
 
   pub flats_broken : (ns : Nodes) (r s : List Record) → wholes ns ≡ false → flats ns r ≡ flats ns s
   flats_broken (none k) r s w = cc
-  flats_broken (more n ns) r s w = ⊎_elim (λ a. flat_broken n (flats ns r) (flats ns s) a) (λ b. ap (flat n) (flats_broken ns r s b)) (and_cases (whole n) (wholes ns) w)
+  flats_broken (more n ns) r s w = grind (arith, flat_broken n (flats ns r) (flats ns s), flats_broken ns r s, and_cases (whole n) (wholes ns) w)
 
   pub flatp_broken : (ps : Pairs) (r s : List Record) → wholep ps ≡ false → flatp ps r ≡ flatp ps s
   flatp_broken (done k) r s w = cc
-  flatp_broken (pair k v ps) r s w =
-      ⊎_elim (λ a. flat_broken k (flat v (flatp ps r)) (flat v (flatp ps s)) a)
-      (λ w'. ap (flat k) (⊎_elim (λ b. flat_broken v (flatp ps r) (flatp ps s) b) (λ c. ap (flat v) (flatp_broken ps r s c)) (and_cases (whole v) (wholep ps) w')))
-      (and_cases (whole k) _ w)
+  flatp_broken (pair k v ps) r s w = grind (arith, flat_broken k (flat v (flatp ps r)) (flat v (flatp ps s)), flat_broken v (flatp ps r) (flatp ps s), flatp_broken ps r s, and_cases (whole v) (wholep ps), and_cases (whole k))

@@ -4,7 +4,8 @@ use mathlib.Core.Path.{subst₃}
 use lib.Seq.{take-nil}
 use Rattle.std.specs.List.{AllByRecursion}
 use Rattle.std.proofs.lemmas.List.{length_push, take-append-le, take_all}
-use Rattle.std.proofs.ByRecursion.{All-push}
+use Rattle.std.proofs.lemmas.List.Elements.{All-push, All-from_recursion, recursion_from_All}
+use Rattle.std.proofs.lemmas.List.Sums.{fold_push}
 use Rattle.std.proofs.lemmas.Bool.{cases_lt}
 use Rattle.records.specs.declared.record.Event.TheVariants.{SeqEnd, MapEnd, RecursiveAlias}
 use Rattle.records.specs.declared.record.Record.{Record}
@@ -13,13 +14,13 @@ use Rattle.nodes.specs.Tree.{Node, Nodes, Pairs, rec, scalar_event, seq_event, m
 use Rattle.nodes.specs.Tree.Node.{scalar, alias, seq, dict, cut}
 use Rattle.nodes.specs.Tree.Nodes.{none, more}
 use Rattle.nodes.specs.Tree.Pairs.{done, pair}
-use Rattle.nodes.specs.Reading.{Limits, opens, opened_from, opened, slot_at, start_at, bars, barss, barsp}
+use Rattle.nodes.specs.Reading.{Limits, opens, opened, slot_at, start_at, bars, barss, barsp}
 use Rattle.nodes.proofs.Fits.{neither, slot_free, place_lies, start_free, passed}
 use Rattle.nodes.proofs.Gaps.{past_node}
 
-pub opened_push : (n : ℕ) (xs : List Record) (r : Record) → opened_from n (xs ++ r ∷ []) ≡ opens (opened_from n xs) r.event
-opened_push n [] r = refl
-opened_push n (x ∷ xs) r = opened_push (opens n x.event) xs r
+-- one more event
+pub opened_push : (xs : List Record) (r : Record) → opened (xs ++ r ∷ []) ≡ opens (opened xs) r.event
+opened_push xs r = fold_push (λ now x. opens now x.event) 0 xs r
 
 module _ (l : Limits) where
   -- i events were taken, and d containers may still be opened
@@ -35,11 +36,11 @@ module _ (l : Limits) where
 
   pub one_more : {d i : ℕ} {front : List Record} → Within d i front → (r : Record) (c : ℕ) → i < l.room → placed l.text r.event ≡ true → opens (opened front) r.event + c ≡ l.deep → Within c (i + 1) (front ++ r ∷ [])
   one_more {d} {i} {front} s r c h p e =
-      let o = opened_push 0 front r in
+      let o = opened_push front r in
       record {
         count = length_push front r ∙ ap (λ n. n + 1) s.count;
         short = omega arith;
-        inside = All-push _ front r s.inside p;
+        inside = recursion_from_All _ _ (All-push (λ x. placed l.text x.event ≡ true) front r (All-from_recursion _ _ s.inside) p);
         low = λ n. ⊎_elim
             (λ a. subst (λ x. opened x ≤ l.deep) (sym (take-append-le n front (r ∷ []) (omega (arith, s.count)))) (s.low n))
             (λ b. subst (λ x. opened x ≤ l.deep) (sym (take_all n (front ++ r ∷ []) (let z = length_push front r in omega (arith, s.count)))) (omega arith))
@@ -61,13 +62,13 @@ module _ (l : Limits) where
         let (a, b) = neither (start_at l d i k (seq_event x)) _ h in
         let f = start_free l d i k (seq_event x) a in
         let s' = one_more s (rec k (seq_event x)) (d - 1) f.free f.lies (omega (arith, s.level, f.low)) in
-        let o = opened_push 0 front (rec k (seq_event x)) in
+        let o = opened_push front (rec k (seq_event x)) in
         moved (nodes-taken ns s' (omega arith) b) (omega (arith, f.low)) (omega arith) (append_assoc front _ _)
     node-taken {d} {i} {front} (dict k x ps) s h =
         let (a, b) = neither (start_at l d i k (map_event x)) _ h in
         let f = start_free l d i k (map_event x) a in
         let s' = one_more s (rec k (map_event x)) (d - 1) f.free f.lies (omega (arith, s.level, f.low)) in
-        let o = opened_push 0 front (rec k (map_event x)) in
+        let o = opened_push front (rec k (map_event x)) in
         moved (pairs-taken ps s' (omega arith) b) (omega (arith, f.low)) (omega arith) (append_assoc front _ _)
     node-taken (cut c) s h = cc
 

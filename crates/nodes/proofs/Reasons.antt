@@ -2,6 +2,7 @@
 use Rattle.std.proofs.Common.{◌≡◌, ℕ, suc, ◌+◌, ◌<◌, ◌≤◌, true, false, List, [], ◌∷◌, ◌++◌, length, take, Some, None, Option, sym, refl, ap, ◌∙◌, subst, subst₂, append_assoc, append-nil, arith, length-append}
 use lib.Seq.{take-append-add}
 use Rattle.std.specs.List.{AllByRecursion}
+use Rattle.std.proofs.lemmas.List.Elements.{All-contains, All-from_recursion, Contains-append_right}
 use Rattle.std.proofs.lemmas.Bool.{both_ways}
 use Rattle.records.specs.declared.record.Event.{Event}
 use Rattle.records.specs.declared.record.Event.TheVariants.{Scalar, SeqStart, SeqEnd, MapStart, MapEnd, RecursiveAlias}
@@ -89,10 +90,6 @@ begins_front front q r b = let (u, m, w, e) = b in (u, q ++ m, w, e ∙ append_a
 begins_less : (xs ys : List Record) → Begins (xs ++ ys) → Begins xs
 begins_less xs ys b = let (u, m, w, e) = b in (u, ys ++ m, w, e ∙ append_assoc xs ys m)
 
-all_at : (P : Record → Type 0) (xs : List Record) (r : Record) (ys : List Record) → AllByRecursion P (xs ++ r ∷ ys) → P r
-all_at P [] r ys h = h.0
-all_at P (x ∷ xs) r ys h = all_at P xs r ys h.1
-
 opens_start : (n : ℕ) (e : Event) → is_start e ≡ true → opens n e ≡ suc n
 opens_start n (Scalar a t w s v) h = cc
 opens_start n (SeqStart a t w) h = refl
@@ -105,11 +102,11 @@ opens_start n (RecursiveAlias a) h = cc
 stuck : (l : Limits) (front : List Record) (r : Record) (rest q : List Record) (b : Bar) → Cause l front (r ∷ rest) b → Went l (front ++ r ∷ q) → ⊥
 stuck l front r rest q b (misplaced n) w = n (begins_front front q r w.begins)
 stuck l front r rest q b (full g h) w = let e = length-append front (r ∷ q) in omega (arith, w.short)
-stuck l front r rest q b (outside g h p) w = both_ways _ p (all_at _ front r q w.inside)
+stuck l front r rest q b (outside g h p) w = both_ways _ p (All-contains (λ e. placed l.text e.event ≡ true) (front ++ r ∷ q) r (All-from_recursion _ _ w.inside) (Contains-append_right front (r ∷ q) r (0, omega arith, refl)))
 stuck l front r rest q b (too_deep g h p t o) w =
     let e = take-append-add front (r ∷ q) 1 in
     let m : opened (front ++ r ∷ []) ≤ l.deep = subst (λ x. opened x ≤ l.deep) e (w.low (length front + 1)) in
-    let u = opened_push 0 front r in
+    let u = opened_push front r in
     let v = opens_start (opened front) r.event t in
     omega arith
 
@@ -127,14 +124,6 @@ module _ (l : Limits) (es : List Record) where
       let x = stop l es b v in
       let y = stop l es c w in
       one_stop b c x y (parted x.front y.front x.rest y.rest (sym x.is ∙ y.is))
-
-  -- no more is taken than there is
-  pub why_taken : (b : Bar) → Why l es b → b.taken ≤ length es
-  why_taken b (Why.early s) = omega arith
-  why_taken b (Why.misplaced front r q e s d n) = let a = ap length e ∙ length-append front (r ∷ q) in omega arith
-  why_taken b (Why.full front r q e s g h) = let a = ap length e ∙ length-append front (r ∷ q) in omega arith
-  why_taken b (Why.outside front r q e s g h p) = let a = ap length e ∙ length-append front (r ∷ q) in omega arith
-  why_taken b (Why.too_deep front r q e s g h p t o) = let a = ap length e ∙ length-append front (r ∷ q) in omega arith
 
   -- no whole node stands at the front of what is taken
   unfinished : (u : Node) (q : List Record) {front : List Record} → whole u ≡ true → SoFar l front → front ≡ flat u [] ++ q → ⊥

@@ -1,35 +1,31 @@
 -- The node that a collection leaves is as large, as deep and as whole as the one that came, and is barred by the same.
-use Rattle.std.proofs.Common.{◌≡◌, ℕ, suc, ◌+◌, ◌-◌, max, Bool, true, false, cond, ◌&&◌, Some, None, Option, refl, ap, ◌∙◌, ap₂}
+use Rattle.std.proofs.Common.{◌≡◌, ℕ, ◌+◌, ◌-◌, Bool, true, false, cond, ◌&&◌, Option, refl, arith}
 use lib.Dec.{leb-zero}
-use Rattle.records.specs.declared.refusal.Reason.TheVariants.{PlaceOutsideRackText}
-use Rattle.nodes.specs.Tree.{Mark, Head, Node, Nodes, Pairs, seq_event, map_event, size, sizes, sizep, depth, depths, depthp, whole, wholes, wholep}
+use Rattle.nodes.specs.Tree.{Mark, Head, Node, Nodes, Pairs, size, sizes, sizep, depth, depths, depthp, whole, wholes, wholep}
 use Rattle.nodes.specs.Tree.Node.{scalar, alias, seq, dict, cut}
 use Rattle.nodes.specs.Tree.Nodes.{none, more}
 use Rattle.nodes.specs.Tree.Pairs.{done, pair}
-use Rattle.nodes.specs.Reading.{Limits, Bar, or_else, bar_at, slot_at, start_at, bars, barss, barsp}
+use Rattle.nodes.specs.Reading.{Limits, Bar, bars, barss, barsp}
 use Rattle.nodes.specs.Fields.{Rules, resolved, is_merge}
 use Rattle.nodes.specs.Leaving.{elements_taken, value_taken, is_merging, pairs_taken, node_taken, OneNodeLeft}
 
--- two nodes with the same outline
-pub record Same (t u : Node) : Type 0 where
-  pub size : size t ≡ size u
-  pub depth : depth t ≡ depth u
-  pub whole : whole t ≡ whole u
-  pub bars : (l : Limits) (d i : ℕ) → bars l d i t ≡ bars l d i u
+-- two trees with the same outline
+pub record Outlines (X : Type 0) (size_of depth_of : X → ℕ) (whole_of : X → Bool) (bars_of : Limits → ℕ → ℕ → X → Option Bar) (t u : X) : Type 0 where
+  pub size : size_of t ≡ size_of u
+  pub depth : depth_of t ≡ depth_of u
+  pub whole : whole_of t ≡ whole_of u
+  pub bars : (l : Limits) (d i : ℕ) → bars_of l d i t ≡ bars_of l d i u
 
-pub record Sames (t u : Nodes) : Type 0 where
-  pub size : sizes t ≡ sizes u
-  pub depth : depths t ≡ depths u
-  pub whole : wholes t ≡ wholes u
-  pub bars : (l : Limits) (d i : ℕ) → barss l d i t ≡ barss l d i u
+abbrev pub Same : Node → Node → Type 0
+Same t u = Outlines Node size depth whole bars t u
 
-pub record Samep (t u : Pairs) : Type 0 where
-  pub size : sizep t ≡ sizep u
-  pub depth : depthp t ≡ depthp u
-  pub whole : wholep t ≡ wholep u
-  pub bars : (l : Limits) (d i : ℕ) → barsp l d i t ≡ barsp l d i u
+abbrev pub Sames : Nodes → Nodes → Type 0
+Sames ns ms = Outlines Nodes sizes depths wholes barss ns ms
 
-pub same : (t : Node) → Same t t
+abbrev pub Samep : Pairs → Pairs → Type 0
+Samep ps qs = Outlines Pairs sizep depthp wholep barsp ps qs
+
+pub same : {X : Type 0} {size_of depth_of : X → ℕ} {whole_of : X → Bool} {bars_of : Limits → ℕ → ℕ → X → Option Bar} (t : X) → Outlines X size_of depth_of whole_of bars_of t t
 same t = record { size = refl; depth = refl; whole = refl; bars = λ l d i. refl }
 
 pub same_cond : (q : Bool) (t u : Node) → Same t u → Same (cond q t u) u
@@ -38,41 +34,30 @@ same_cond false t u s = same u
 
 pub same_more : (n m : Node) (ns ms : Nodes) → Same n m → Sames ns ms → Sames (more n ns) (more m ms)
 same_more n m ns ms s r =
-    record { size = ap₂ ◌+◌ s.size r.size; depth = ap₂ max s.depth r.depth; whole = ap₂ ◌&&◌ s.whole r.whole; bars = λ l d i. ap₂ or_else (s.bars l d i) (r.bars l d (i + size n) ∙ ap (λ j. barss l d (i + j) ms) s.size) }
+    record { size = cc; depth = cc; whole = cc; bars = λ l d i. cc (s.bars l d i, r.bars l d (i + size n)) }
 
 pub same_pair : (k l v w : Node) (ps qs : Pairs) → Same k l → Same v w → Samep ps qs → Samep (pair k v ps) (pair l w qs)
 same_pair k l v w ps qs s r p =
-    record {
-      size = ap₂ ◌+◌ (ap₂ ◌+◌ s.size r.size) p.size;
-      depth = ap₂ max (ap₂ max s.depth r.depth) p.depth;
-      whole = ap₂ ◌&&◌ s.whole (ap₂ ◌&&◌ r.whole p.whole);
-      bars = λ m d i. ap₂ or_else (s.bars m d i) (ap₂ or_else
-          (r.bars m d (i + size k) ∙ ap (λ j. bars m d (i + j) w) s.size)
-          (p.bars m d (i + size k + size v) ∙ ap₂ (λ j n. barsp m d (i + j + n) qs) s.size r.size));
-    }
+    record { size = cc; depth = cc; whole = cc; bars = λ m d i. cc (s.bars m d i, r.bars m d (i + size k), p.bars m d (i + size k + size v)) }
 
 pub same_seq : (k : Mark) (h : Head) (ns ms : Nodes) → Sames ns ms → Same (seq k h ns) (seq k h ms)
-same_seq k h ns ms s = record { size = ap suc s.size; depth = ap suc s.depth; whole = s.whole; bars = λ l d i. ap (or_else (start_at l d i k (seq_event h))) (s.bars l (d - 1) (i + 1)) }
+same_seq k h ns ms s = record { size = cc; depth = cc; whole = s.whole; bars = λ l d i. cc (s.bars l (d - 1) (i + 1)) }
 
 pub same_dict : (k : Mark) (h : Head) (ps qs : Pairs) → Samep ps qs → Same (dict k h ps) (dict k h qs)
-same_dict k h ps qs s = record { size = ap suc s.size; depth = ap suc s.depth; whole = s.whole; bars = λ l d i. ap (or_else (start_at l d i k (map_event h))) (s.bars l (d - 1) (i + 1)) }
+same_dict k h ps qs s = record { size = cc; depth = cc; whole = s.whole; bars = λ l d i. cc (s.bars l (d - 1) (i + 1)) }
 
 -- the null that a recursive alias is read as has no place outside any text
-alone : (o : Option Bar) → or_else o None ≡ o
-alone None = refl
-alone (Some b) = refl
-
 pub same_resolved : (defers : Bool) (t : Node) → Same (resolved defers t) t
 same_resolved defers (scalar k x) = same (scalar k x)
 same_resolved true (alias k a) = same (alias k a)
 same_resolved false (alias k a) =
-    record { size = refl; depth = refl; whole = refl; bars = λ l d i. ap (λ q. or_else (slot_at l i k) (cond q None (Some (bar_at PlaceOutsideRackText k i)))) (leb-zero l.text) ∙ alone (slot_at l i k) }
+    record { size = refl; depth = refl; whole = refl; bars = λ l d i. grind (arith, leb-zero l.text) }
 same_resolved defers (seq k h ns) = same (seq k h ns)
 same_resolved defers (dict k h ps) = same (dict k h ps)
 same_resolved defers (cut c) = same (cut c)
 
 pub same_elements : (defers : Bool) (ns : Nodes) → Sames (elements_taken defers ns) ns
-same_elements defers (none k) = record { size = refl; depth = refl; whole = refl; bars = λ l d i. refl }
+same_elements defers (none k) = same (none k)
 same_elements defers (more n ns) = same_more (resolved defers n) n (elements_taken defers ns) ns (same_resolved defers n) (same_elements defers ns)
 
 pub same_value : (defers : Bool) (t : Node) → Same (value_taken defers t) t
@@ -83,7 +68,7 @@ same_value defers (dict k h ps) = same (dict k h ps)
 same_value defers (cut c) = same (cut c)
 
 pub same_pairs : (R : Rules) (defers : Bool) (ps : Pairs) → Samep (pairs_taken R defers ps) ps
-same_pairs R defers (done k) = record { size = refl; depth = refl; whole = refl; bars = λ l d i. refl }
+same_pairs R defers (done k) = same (done k)
 same_pairs R defers (pair k v ps) =
     same_pair (resolved defers k) k _ v (pairs_taken R defers ps) ps
     (same_resolved defers k) (same_cond (is_merge R.text k && is_merging R.merges) (value_taken defers v) v (same_value defers v)) (same_pairs R defers ps)

@@ -1,9 +1,8 @@
 -- What bars a node behind others, as at the start of what is left.
-use Rattle.std.proofs.Common.{◌≡◌, ℕ, ◌+◌, ◌-◌, Bool, true, false, cond, ltb, Some, None, Option, sym, refl, ap, ◌∙◌, ap₂, ⊎_elim, add_assoc, arith}
+use Rattle.std.proofs.Common.{◌≡◌, ℕ, ◌+◌, ◌-◌, Bool, cond, ltb, Some, None, Option, sym, refl, ap, ◌∙◌, ap₂, add_assoc, arith}
 use Rattle.std.proofs.lemmas.Bool.Decides.{nat_tests}
-use Rattle.std.proofs.lemmas.Bool.{cases_lt, lt-ltb, le-ltb}
 use Rattle.records.specs.declared.record.Event.{Event}
-use Rattle.records.specs.declared.refusal.Reason.TheVariants.{UnexpectedContainerEnd, RackFull}
+use Rattle.records.specs.declared.refusal.Reason.TheVariants.{UnexpectedContainerEnd}
 use Rattle.nodes.specs.Tree.{Mark, Node, Nodes, Pairs, size, scalar_event, seq_event, map_event}
 use Rattle.nodes.specs.Tree.Cut.{ended, stray}
 use Rattle.nodes.specs.Tree.Node.{scalar, alias, seq, dict, cut}

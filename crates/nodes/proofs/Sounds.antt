@@ -1,5 +1,5 @@
 -- Sound trees: their children behind a node, and that whole trees are sound.
-use Rattle.std.proofs.Common.{◌≡◌, Bool, true, false, cond, sym, refl, subst}
+use Rattle.std.proofs.Common.{◌≡◌, true, false, refl, arith}
 use Rattle.std.proofs.lemmas.Bool.{and_parts}
 use Rattle.nodes.specs.Tree.{End, Node, Nodes, Pairs, whole, wholes, wholep, cut_at, no_nodes, no_pairs, Sound, Sounds, Soundp}
 use Rattle.nodes.specs.Tree.Node.{scalar, alias, seq, dict, cut}
@@ -8,50 +8,41 @@ use Rattle.nodes.specs.Tree.Cut.{ended}
 use Rattle.nodes.specs.Tree.Nodes.{none, more}
 use Rattle.nodes.specs.Tree.Pairs.{done, pair}
 
--- what is asked of the children behind a node, and of the pairs behind a value and a key, by whether that is whole
-abbrev Behind : Nodes → Bool → Type 0
-Behind ns b = cond b (Sounds ns) (ns ≡ no_nodes)
-
-abbrev Behindv : Pairs → Bool → Type 0
-Behindv ps b = cond b (Soundp ps) (ps ≡ no_pairs)
-
-abbrev Behindk : Node → Pairs → Bool → Type 0
-Behindk v ps b = cond b (Sound v × Behindv ps (whole v)) ((v ≡ cut ended) × (ps ≡ no_pairs))
-
+-- the children behind a node, and the pairs behind a key and a value
 module _ (n : Node) (ns : Nodes) where
   pub sounds_behind : Sounds (more n ns) → whole n ≡ true → Sounds ns
-  sounds_behind s w = subst (Behind ns) w s.2
+  sounds_behind s w = grind arith
 
   pub sounds_none : Sounds (more n ns) → whole n ≡ false → ns ≡ no_nodes
-  sounds_none s w = subst (Behind ns) w s.2
+  sounds_none s w = grind arith
 
   pub sounds_from : cut_at seq_end n ≡ false → Sound n → whole n ≡ true → Sounds ns → Sounds (more n ns)
-  sounds_from c s w s' = (c, s, subst (Behind ns) (sym w) s')
+  sounds_from c s w s' = grind arith
 
 pub sounds_cut : (n : Node) → cut_at seq_end n ≡ false → Sound n → whole n ≡ false → Sounds (more n no_nodes)
-sounds_cut n c s w = (c, s, subst (Behind no_nodes) (sym w) refl)
+sounds_cut n c s w = grind arith
 
 module _ (k v : Node) (ps : Pairs) where
   pub soundp_value : Soundp (pair k v ps) → whole k ≡ true → Sound v
-  soundp_value s w = (subst (Behindk v ps) w s.2).0
+  soundp_value s w = grind arith
 
   pub soundp_behind : Soundp (pair k v ps) → whole k ≡ true → whole v ≡ true → Soundp ps
-  soundp_behind s w w' = subst (Behindv ps) w' (subst (Behindk v ps) w s.2).1
+  soundp_behind s w w' = grind arith
 
   pub soundp_none : Soundp (pair k v ps) → whole k ≡ true → whole v ≡ false → ps ≡ no_pairs
-  soundp_none s w w' = subst (Behindv ps) w' (subst (Behindk v ps) w s.2).1
+  soundp_none s w w' = grind arith
 
   pub soundp_neither : Soundp (pair k v ps) → whole k ≡ false → (v ≡ cut ended) × (ps ≡ no_pairs)
-  soundp_neither s w = subst (Behindk v ps) w s.2
+  soundp_neither s w = grind arith
 
   pub soundp_from : cut_at map_end k ≡ false → Sound k → whole k ≡ true → Sound v → whole v ≡ true → Soundp ps → Soundp (pair k v ps)
-  soundp_from c s w s' w' s'' = (c, s, subst (Behindk v ps) (sym w) (s', subst (Behindv ps) (sym w') s''))
+  soundp_from c s w s' w' s'' = grind arith
 
 pub soundp_cut_value : (k v : Node) → cut_at map_end k ≡ false → Sound k → whole k ≡ true → Sound v → whole v ≡ false → Soundp (pair k v no_pairs)
-soundp_cut_value k v c s w s' w' = (c, s, subst (Behindk v no_pairs) (sym w) (s', subst (Behindv no_pairs) (sym w') refl))
+soundp_cut_value k v c s w s' w' = grind arith
 
 pub soundp_cut_key : (k : Node) → cut_at map_end k ≡ false → Sound k → whole k ≡ false → Soundp (pair k (cut ended) no_pairs)
-soundp_cut_key k c s w = (c, s, subst (Behindk (cut ended) no_pairs) (sym w) (refl, refl))
+soundp_cut_key k c s w = grind arith
 
 -- a whole node is no end out of place
 pub whole_uncut : (e : End) (t : Node) → whole t ≡ true → cut_at e t ≡ false
@@ -77,7 +68,4 @@ mutual
 
   pub whole_soundp : (ps : Pairs) → wholep ps ≡ true → Soundp ps
   whole_soundp (done k) w = tt
-  whole_soundp (pair k v ps) w =
-      let (a, w') = and_parts (whole k) _ w in
-      let (b, c) = and_parts (whole v) (wholep ps) w' in
-      soundp_from k v ps (whole_uncut map_end k a) (whole_sound k a) a (whole_sound v b) b (whole_soundp ps c)
+  whole_soundp (pair k v ps) w = grind (arith, and_parts (whole k), and_parts (whole v) (wholep ps), soundp_from k v ps, whole_uncut map_end k, whole_sound k, whole_sound v, whole_soundp ps)

@@ -1,21 +1,10 @@
 -- How answers go on: laws of `after`, `and_then` and `at`, and what holds of whatever is answered.
-use Rattle.std.proofs.Common.{◌≡◌, ℕ, Bool, true, false, cond, Some, None as Nothing, Ok, Err, Option, Result, refl, ap, ◌∙◌, subst}
-use Rattle.records.specs.declared.location.Location.{Location}
+use Rattle.std.proofs.Common.{◌≡◌, ℕ, Bool, true, false, cond, Some, None as Nothing, Ok, Err, Option, Result, refl, ap, ◌∙◌}
+use Rattle.std.specs.Result.{IfOk}
 use Rattle.records.specs.declared.options.MergeKeyPolicy.{MergeKeyPolicy}
 use Rattle.records.specs.declared.options.MergeKeyPolicy.TheVariants.{Merge, AsOrdinary, Error as NoMerges}
-use Rattle.records.specs.declared.refusal.Reason.{Reason}
 use Rattle.records.specs.declared.refusal.Refusal.{Refusal}
-use Rattle.nodes.specs.Collect.{Stop, and_then, after, stopped, at, stop_with, by_policy}
-
-pub ok_same : {A E : Type 0} {x y : A} → ◌≡◌ {A = Result A E} (Ok x) (Ok y) → x ≡ y
-ok_same h = cc
-
-pub cond_made : {B E : Type 0} (q : Bool) (r : Result B E) (e : E) {y : B} → cond q r (Err e) ≡ Ok y → (q ≡ true) × (r ≡ Ok y)
-cond_made true r e h = (refl, h)
-cond_made false r e h = cc
-
-pub by_merge : {A : Type 0} (m : MergeKeyPolicy) (x y z : A) {r : A} → m ≡ Merge → by_policy m x y z ≡ r → x ≡ r
-by_merge m x y z e h = rw e at h
+use Rattle.nodes.specs.Collect.{Stop, and_then, after, at, stop_with, by_policy}
 
 module _ {A B : Type 0} where
   pub then_same : (r : Result A Stop) (f g : A → Result B Stop) → ((x : A) → f x ≡ g x) → and_then r f ≡ and_then r g
@@ -47,37 +36,32 @@ module _ {B : Type 0} where
   stop_with_made n (Err s) y e = cc
 
 -- what holds of whatever is answered
-abbrev pub Gives : {A E : Type 0} → Result A E → (A → Type 0) → Type 0
-Gives {A} r P = (x : A) → r ≡ Ok x → P x
-
-module _ {A B : Type 0} (Q : A → Type 0) (P : B → Type 0) where
-  pub gives_then : (r : Result A Stop) (f : A → Result B Stop) → Gives r Q → ((x : A) → Q x → Gives (f x) P) → Gives (and_then r f) P
-  gives_then r f q h y e = let (x, p, p') = then_made r f y e in h x (q x p) y p'
+module _ {A B : Type 0} (P : B → Type 0) (Q : A → Type 0) where
+  pub if_ok_then : (r : Result A Stop) (f : A → Result B Stop) → IfOk r Q → ((x : A) → Q x → IfOk (f x) P) → IfOk (and_then r f) P
+  if_ok_then (Ok x) f q h = h x q
+  if_ok_then (Err s) f q h = tt
 
 module _ {B : Type 0} (P : B → Type 0) where
-  pub gives_ok : {E : Type 0} (x : B) → P x → Gives {E = E} (Ok x) P
-  gives_ok x p y e = subst P (cc) p
+  pub if_ok_after : (o : Option Stop) (r : Result B Stop) → IfOk r P → IfOk (after o r) P
+  if_ok_after Nothing r p = p
+  if_ok_after (Some s) r p = tt
 
-  pub gives_err : {E : Type 0} (s : E) → Gives (Err s) P
-  gives_err s y e = cc
+  pub if_ok_at : (n : ℕ) (r : Result B Stop) → IfOk r P → IfOk (at n r) P
+  if_ok_at n (Ok x) p = p
+  if_ok_at n (Err s) p = tt
 
-  pub gives_stopped : (why : Reason) (l : Location) (n : ℕ) → Gives (stopped why l n) P
-  gives_stopped why l n = gives_err _
+  pub if_ok_stop_with : (n : ℕ) (r : Result B Refusal) → IfOk r P → IfOk (stop_with n r) P
+  if_ok_stop_with n (Ok x) p = p
+  if_ok_stop_with n (Err s) p = tt
 
-  pub gives_after : (o : Option Stop) (r : Result B Stop) → Gives r P → Gives (after o r) P
-  gives_after o r p y e = p y (after_made o r y e).1
+  pub if_ok_cond : (b : Bool) (r q : Result B Stop) → (b ≡ true → IfOk r P) → (b ≡ false → IfOk q P) → IfOk (cond b r q) P
+  if_ok_cond true r q p p' = p refl
+  if_ok_cond false r q p p' = p' refl
 
-  pub gives_at : (n : ℕ) (r : Result B Stop) → Gives r P → Gives (at n r) P
-  gives_at n r p y e = p y (at_made n r y e)
+  pub if_ok_by_policy : (m : MergeKeyPolicy) (r q s : Result B Stop) → IfOk r P → IfOk q P → IfOk s P → IfOk (by_policy m r q s) P
+  if_ok_by_policy Merge r q s x y z = x
+  if_ok_by_policy AsOrdinary r q s x y z = y
+  if_ok_by_policy NoMerges r q s x y z = z
 
-  pub gives_stop_with : (n : ℕ) (r : Result B Refusal) → Gives r P → Gives (stop_with n r) P
-  gives_stop_with n r p y e = p y (stop_with_made n r y e)
-
-  pub gives_cond : (b : Bool) (r q : Result B Stop) → Gives r P → Gives q P → Gives (cond b r q) P
-  gives_cond true r q p p' = p
-  gives_cond false r q p p' = p'
-
-  pub gives_by_policy : (m : MergeKeyPolicy) (r q s : Result B Stop) → Gives r P → Gives q P → Gives s P → Gives (by_policy m r q s) P
-  gives_by_policy Merge r q s x y z = x
-  gives_by_policy AsOrdinary r q s x y z = y
-  gives_by_policy NoMerges r q s x y z = z
+  pub if_ok_merge : (m : MergeKeyPolicy) (r q s : Result B Stop) → m ≡ Merge → IfOk r P → IfOk (by_policy m r q s) P
+  if_ok_merge m r q s e p = rw e p

@@ -1,5 +1,6 @@
 -- Sources once some events are taken: one part after another, how they close, and what a deferring source answers.
 use Rattle.std.proofs.Common.{◌≡◌, ℕ, ◌+◌, true, List, [], ◌∷◌, ◌++◌, take, drop, Some, None, Ok, Err, Option, Result, sym, refl, ap, ◌∙◌, ap₂, take-append-drop, drop-drop, take-add}
+use Rattle.std.proofs.lemmas.List.Sums.{fold-append}
 use Rattle.records.specs.declared.location.Location.{Location}
 use Rattle.records.specs.declared.record.Record.{Record}
 use Rattle.records.specs.declared.refusal.Reason.TheVariants.{Eof}
@@ -11,11 +12,7 @@ use Rattle.nodes.specs.Taking.{past}
 use Rattle.nodes.proofs.Flats.{drop_flat, take_flat}
 
 pub last_append : (l : Location) (xs ys : List Record) → last_in l (xs ++ ys) ≡ last_in (last_in l xs) ys
-last_append l [] ys = refl
-last_append l (x ∷ xs) ys = last_append x.location xs ys
-
-pub past_none : (m : Meaning) → past 0 m ≡ m
-past_none m = refl
+last_append l xs ys = fold-append (λ _ r. r.location) l xs ys
 
 pub past_more : (n k : ℕ) (m : Meaning) → past k (past n m) ≡ past (n + k) m
 past_more n k m =
