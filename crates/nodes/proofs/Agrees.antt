@@ -1,16 +1,15 @@
 -- Where a node can be captured, collecting it from a source and collecting it held give the same.
-use Rattle.std.proofs.Common.{◌≡◌, ℕ, ◌+◌, ◌-◌, Bool, true, false, cond, ltb, List, ◌++◌, length, None as Nothing, Ok, Result, refl, ap, ◌∙◌, ap₂}
-use Rattle.records.specs.declared.refusal.Reason.TheVariants.{UnknownAlias, MergeValueNotMapOrSeqOfMaps, MergeKeyNotAllowed, EntriesFull}
+use Rattle.std.proofs.Common.{◌≡◌, ℕ, ◌+◌, ◌-◌, Bool, true, false, cond, List, ◌++◌, length, None as Nothing, Ok, Result, refl, ap, ◌∙◌, ap₂, arith}
+use Rattle.records.specs.declared.refusal.Reason.TheVariants.{MergeKeyNotAllowed}
 use Rattle.records.specs.declared.refusal.Refusal.{Refusal}
-use Rattle.events.specs.Meaning.{known}
-use Rattle.nodes.specs.Tree.{Node, Nodes, Pairs, seq_event, map_event, size, sizep}
+use Rattle.nodes.specs.Tree.{Node, Nodes, Pairs, size}
 use Rattle.nodes.specs.Tree.Cut.{ended, stray}
 use Rattle.nodes.specs.Tree.Node.{scalar, alias, seq, dict, cut}
 use Rattle.nodes.specs.Tree.Nodes.{none, more}
 use Rattle.nodes.specs.Tree.Pairs.{done, pair}
-use Rattle.nodes.specs.Reading.{Limits, slot_at, start_at, bars, barss, barsp, barred}
-use Rattle.nodes.specs.Fields.{Rules, Basis, Item, is_merge, null_words, place, reference_at, field_of}
-use Rattle.nodes.specs.Collect.{Stop, Gathered, after, and_then, at, stopped, bar_stop, unknown_at, with_own, with_brought, closed, as_field, as_merge, by_policy, gather, merge_value, elements, expand, collected}
+use Rattle.nodes.specs.Reading.{Limits, bars, barss, barsp, barred}
+use Rattle.nodes.specs.Fields.{Rules, Basis, Item, is_merge, place, reference_at}
+use Rattle.nodes.specs.Collect.{Stop, Gathered, after, and_then, at, stopped, bar_stop, unknown_at, with_brought, as_field, as_merge, by_policy, gather, merge_value, elements, expand, collected}
 use Rattle.nodes.specs.Collect.Stand.{held, live}
 use Rattle.nodes.specs.Agreeing.{answer, CollectionsAgree}
 use Rattle.nodes.proofs.Fits.{neither}
@@ -19,9 +18,7 @@ use Rattle.nodes.proofs.Stops.{then_same, then_both, after_yes}
 module _ (R : Rules) (l : Limits) (defers : Bool) where
   field_same : (b : Basis) (d u i : ℕ) (k v : Node) (f g : ℕ → ℕ → Result Gathered Stop) → bars l d (i + size k) v ≡ Nothing → ((n : ℕ) → f n (i + size k + size v) ≡ g n (i + size k + size v))
       → as_field R b (live l d) defers u i k v f ≡ as_field R b held defers u i k v g
-  field_same b d u i k v f g h e =
-      after_yes _ _ (ap (bar_stop false (i + size k)) h)
-      ∙ ap (λ r. cond (ltb u R.places) (and_then r (λ g. Ok (with_own (field_of b defers k v) g))) (stopped EntriesFull (place k) (i + size k + size v))) (e (u + 1))
+  field_same b d u i k v f g h e = grind (arith, after_yes)
 
   merge_same : (u i : ℕ) (r q : Result (List Item) Stop) (f g : ℕ → ℕ → Result Gathered Stop) → r ≡ q → ((n : ℕ) → f n i ≡ g n i) → as_merge u i r f ≡ as_merge u i q g
   merge_same u i r q f g e h = then_both r q _ _ e (λ new. ap (λ x. and_then x (λ g. Ok (with_brought new g))) (h (u + length new)))
@@ -41,13 +38,9 @@ module _ (R : Rules) (l : Limits) (defers : Bool) where
         (merge_same u (i + size k + size v) _ _ f g (value_same b d u (i + size k) v q) rest) (field_same b d u i k v f g q rest))
 
     pub value_same : (b : Basis) (d u i : ℕ) (t : Node) → bars l d i t ≡ Nothing → merge_value R b (live l d) defers u i t ≡ merge_value R b held defers u i t
-    value_same b d u i (scalar k x) h =
-        let (p, q) = neither (slot_at l i k) _ h in
-        after_yes _ _ (ap (bar_stop true i) q) ∙ ap (λ r. cond (null_words R.text x) r (stopped MergeValueNotMapOrSeqOfMaps k.location i)) (after_yes _ _ (ap (bar_stop true i) p))
-    value_same b d u i (alias k a) h = ap (λ r. cond (known a R.anchors) r (stopped UnknownAlias k.location i)) (after_yes _ _ (ap (bar_stop true i) h))
-    value_same b d u i (seq k x ns) h =
-        let (p, q) = neither (start_at l d i k (seq_event x)) _ h in
-        after_yes _ _ (ap (bar_stop true i) p) ∙ elements_same b (d - 1) u (i + 1) ns q
+    value_same b d u i (scalar k x) h = grind (arith, neither, after_yes)
+    value_same b d u i (alias k a) h = grind (arith, after_yes)
+    value_same b d u i (seq k x ns) h = grind (arith, neither, after_yes, elements_same b (d - 1) u (i + 1) ns)
     value_same b d u i (dict k x ps) h = after_yes _ _ (ap (bar_stop true i) h)
     value_same b d u i (cut c) h = cc
 
@@ -62,11 +55,9 @@ module _ (R : Rules) (l : Limits) (defers : Bool) where
   -- even what was taken when a refusal came is the same
   pub collected_same : (b : Basis) (missing : Refusal) (t : Node) → barred l t ≡ Nothing → collected R b (live l l.deep) defers missing t ≡ collected R b held defers missing t
   collected_same b missing (scalar k x) h = refl
-  collected_same b missing (alias k a) h = elim defers as (λ y. collected R b (live l l.deep) y missing (alias k a) ≡ collected R b held y missing (alias k a)) [ true ↦ refl | false ↦ refl ]
+  collected_same b missing (alias k a) h = grind arith
   collected_same b missing (seq k x ns) h = refl
-  collected_same b missing (dict k x ps) h =
-      let (p, q) = neither (start_at l l.deep 0 k (map_event x)) _ h in
-      after_yes _ _ (ap (bar_stop true 0) p) ∙ ap (λ r. and_then r (closed R (1 + sizep ps))) (gather-same b (l.deep - 1) 0 1 ps q)
+  collected_same b missing (dict k x ps) h = grind (arith, neither, after_yes, gather-same b)
   collected_same b missing (cut ended) h = refl
   collected_same b missing (cut (stray k e r)) h = refl
 

@@ -1,6 +1,6 @@
 -- The one tree that some events read as, and that no other does.
-use Rattle.std.proofs.Common.{◌≡◌, ℕ, zero, suc, ◌+◌, ◌*◌, ◌<◌, true, false, cond, ◌⊎◌, List, [], ◌∷◌, length, sym, refl, ap, ◌∙◌, subst, ap₂, inl, inr, ⊎_elim, arith}
-use Rattle.std.proofs.lemmas.Bool.{cases_Bool, and_left, and_right, and_cases, cond-true, cond-false}
+use Rattle.std.proofs.Common.{◌≡◌, Bool, ℕ, zero, suc, ◌+◌, ◌*◌, ◌<◌, true, false, cond, List, [], ◌∷◌, length, sym, refl, ap, ◌∙◌, subst, ap₂, ⊎_elim, arith}
+use Rattle.std.proofs.lemmas.Bool.{cases_Bool, and_left, and_right, cond-true, cond-false, cond_both}
 use Rattle.records.specs.declared.record.Event.{Event}
 use Rattle.records.specs.declared.record.Event.TheVariants.{Scalar, SeqStart, SeqEnd, MapStart, MapEnd, RecursiveAlias}
 use Rattle.records.specs.declared.record.Record.{Record}
@@ -101,11 +101,11 @@ mutual
   read_flat zero t r s e h = absurd (omega arith)
   read_flat (suc n) (scalar k x) r s e h = refl
   read_flat (suc n) (alias k a) r s e h = refl
-  read_flat (suc n) (seq k h' ns) r s e h = ap (λ q. (seq k h' q.0, q.1)) (read_flats n ns r s e (omega arith))
-  read_flat (suc n) (dict k h' ps) r s e h = ap (λ q. (dict k h' q.0, q.1)) (read_flatp n ps r s e (omega arith))
-  read_flat (suc n) (cut ended) r s e h = ap (λ q. (cut ended, q)) (sym (e refl))
-  read_flat (suc n) (cut (stray k seq_end q)) r s e h = ap (λ x. (cut (stray k seq_end q), x)) (sym (e refl))
-  read_flat (suc n) (cut (stray k map_end q)) r s e h = ap (λ x. (cut (stray k map_end q), x)) (sym (e refl))
+  read_flat (suc n) (seq k h' ns) r s e h = grind (arith, read_flats n ns r s e)
+  read_flat (suc n) (dict k h' ps) r s e h = grind (arith, read_flatp n ps r s e)
+  read_flat (suc n) (cut ended) r s e h = grind arith
+  read_flat (suc n) (cut (stray k seq_end q)) r s e h = grind arith
+  read_flat (suc n) (cut (stray k map_end q)) r s e h = grind arith
 
   read_flats : (n : ℕ) (ns : Nodes) (r : List Record) → Sounds ns → (wholes ns ≡ false → r ≡ []) → 2 * length (flats ns r) + 1 < n → nodes n (flats ns r) ≡ (ns, r)
   read_flats zero ns r s e h = absurd (omega arith)
@@ -154,9 +154,7 @@ pub reads_read : (es : List Record) (t : Node) (r : List Record) → Reads es t 
 reads_read es t r h = ap read h.is ∙ read_flat (suc (2 * length (flat t r))) t r h.sound h.all (omega arith)
 
 pub reads_unique : (es : List Record) (t u : Node) (r s : List Record) → Reads es t r → Reads es u s → (t ≡ u) × (r ≡ s)
-reads_unique es t u r s h k =
-    let e = sym (reads_read es t r h) ∙ reads_read es u s k in
-    (ap (λ q. q.0) e, ap (λ q. q.1) e)
+reads_unique es t u r s h k = grind (arith, reads_read es t r h, reads_read es u s k)
 
 pub whole_reads : (t : Node) (r : List Record) → whole t ≡ true → Reads (flat t r) t r
 whole_reads t r w = record { sound = whole_sound t w; is = refl; all = λ b. cc }
@@ -165,15 +163,16 @@ pub unique_reading : UniqueReading
 unique_reading t u r s v w e = reads_unique (flat u s) t u r s (subst (λ es. Reads es t r) e (whole_reads t r v)) (whole_reads u s w)
 
 -- and they do read as one
-record Readss (es : List Record) (ns : Nodes) (rest : List Record) : Type 0 where
-  sound : Sounds ns
-  is : es ≡ flats ns rest
-  all : wholes ns ≡ false → rest ≡ []
+record ReadsAs (X : Type 0) (IsSound : X → Type 0) (flat_of : X → List Record → List Record) (whole_of : X → Bool) (es : List Record) (x : X) (rest : List Record) : Type 0 where
+  sound : IsSound x
+  is : es ≡ flat_of x rest
+  all : whole_of x ≡ false → rest ≡ []
 
-record Readsp (es : List Record) (ps : Pairs) (rest : List Record) : Type 0 where
-  sound : Soundp ps
-  is : es ≡ flatp ps rest
-  all : wholep ps ≡ false → rest ≡ []
+abbrev Readss : List Record → Nodes → List Record → Type 0
+Readss es ns rest = ReadsAs Nodes Sounds flats wholes es ns rest
+
+abbrev Readsp : List Record → Pairs → List Record → Type 0
+Readsp es ps rest = ReadsAs Pairs Soundp flatp wholep es ps rest
 
 begin_reads : (f : List Record → Nodes × List Record) (g : List Record → Pairs × List Record) (k : Mark) (e : Event) (rs : List Record)
     → Readss rs (f rs).0 (f rs).1 → Readsp rs (g rs).0 (g rs).1 → Reads (rec k e ∷ rs) (begin f g k e rs).0 (begin f g k e rs).1
@@ -184,79 +183,47 @@ begin_reads f g k (MapStart a t w) rs p q = record { sound = q.sound; is = ap (�
 begin_reads f g k MapEnd rs p q = record { sound = tt; is = refl; all = λ b. refl }
 begin_reads f g k (RecursiveAlias a) rs p q = record { sound = tt; is = refl; all = λ b. cc }
 
--- a node that was read is the end e, or it is not
-cut_cases : (e : End) (t : Node) → (cut_at e t ≡ false) ⊎ ((k : Mark) × (r : List Record) × (t ≡ cut (stray k e r)))
-cut_cases e (scalar k x) = inl refl
-cut_cases e (alias k a) = inl refl
-cut_cases e (seq k h ns) = inl refl
-cut_cases e (dict k h ps) = inl refl
-cut_cases e (cut ended) = inl refl
-cut_cases seq_end (cut (stray k seq_end r)) = inr (k, r, refl)
-cut_cases seq_end (cut (stray k map_end r)) = inl refl
-cut_cases map_end (cut (stray k seq_end r)) = inl refl
-cut_cases map_end (cut (stray k map_end r)) = inr (k, r, refl)
+-- a node that was read is not the end e, or it is
+closed_both : {A : Type 0} (e : End) (y : Mark → List Record → A) (n : A) (t : Node) (P : A → Type 0) → (cut_at e t ≡ false → P n) → ((k : Mark) (r : List Record) → t ≡ cut (stray k e r) → P (y k r)) → P (closed e y n t)
+closed_both e y n (scalar k x) P f g = f refl
+closed_both e y n (alias k a) P f g = f refl
+closed_both e y n (seq k h ns) P f g = f refl
+closed_both e y n (dict k h ps) P f g = f refl
+closed_both e y n (cut ended) P f g = f refl
+closed_both seq_end y n (cut (stray k seq_end r)) P f g = g k r refl
+closed_both seq_end y n (cut (stray k map_end r)) P f g = f refl
+closed_both map_end y n (cut (stray k seq_end r)) P f g = f refl
+closed_both map_end y n (cut (stray k map_end r)) P f g = g k r refl
 
 elements_reads : (es : List Record) (t : Node) (r : List Record) (f : List Record → Nodes × List Record) → Reads es t r → (whole t ≡ true → Readss r (f r).0 (f r).1)
     → Readss es (elements (t, r) f).0 (elements (t, r) f).1
-elements_reads es t r f h p = ⊎_elim
-    (λ c. ⊎_elim
-    (λ w. let q = p w in at (elements_whole t r f c w) (record {
-      sound = sounds_from t (f r).0 c h.sound w q.sound;
-      is = h.is ∙ ap (flat t) q.is;
-      all = λ b. q.all (⊎_elim (λ b'. cc) (λ b'. b') (and_cases (whole t) (wholes (f r).0) b));
-    }))
-    (λ w. at (elements_broken t r f c w) (record {
-      sound = sounds_cut t c h.sound w;
-      is = h.is ∙ flat_broken t r (flats no_nodes []) w;
-      all = λ b. refl;
-    }))
-    (cases_Bool (whole t)))
-    (λ x. let (k, q, e) = x in at (ap (λ u. elements (u, r) f) e) (record { sound = tt; is = h.is ∙ ap (λ u. flat u r) e; all = λ b. cc }))
-    (cut_cases seq_end t)
-  where
-    at : {x : Nodes × List Record} → elements (t, r) f ≡ x → Readss es x.0 x.1 → Readss es (elements (t, r) f).0 (elements (t, r) f).1
-    at e q = subst (λ x. Readss es x.0 x.1) (sym e) q
+elements_reads es t r f h p =
+    closed_both seq_end (λ k r. (none k, r)) (cond (whole t) (more t (f r).0, (f r).1) (more t no_nodes, [])) t (λ (x : Nodes × List Record). Readss es x.0 x.1)
+    (λ c. cond_both (whole t) (more t (f r).0, (f r).1) (more t no_nodes, []) (λ (x : Nodes × List Record). Readss es x.0 x.1)
+    (λ w. let q = p w in record { sound = sounds_from t (f r).0 c h.sound w q.sound; is = h.is ∙ ap (flat t) q.is; all = λ b. q.all (grind arith) })
+    (λ w. record { sound = sounds_cut t c h.sound w; is = h.is ∙ flat_broken t r (flats no_nodes []) w; all = λ b. refl }))
+    (λ k q e. record { sound = tt; is = h.is ∙ ap (λ u. flat u r) e; all = λ b. cc })
 
 values_reads : (k : Node) (es : List Record) (t : Node) (r : List Record) (f : List Record → Pairs × List Record)
     → cut_at map_end k ≡ false → Sound k → whole k ≡ true → Reads es t r → (whole t ≡ true → Readsp r (f r).0 (f r).1)
     → Readsp (flat k es) (values k (t, r) f).0 (values k (t, r) f).1
-values_reads k es t r f c s w h p = ⊎_elim
-    (λ u. let q = p u in at (cond-true (whole t) _ _ u) (record {
-      sound = soundp_from k t (f r).0 c s w h.sound u q.sound;
-      is = ap (flat k) (h.is ∙ ap (flat t) q.is);
-      all = λ b. q.all (⊎_elim (λ b'. cc) (λ b'. ⊎_elim (λ b''. cc) (λ b''. b'') (and_cases (whole t) _ b')) (and_cases (whole k) _ b));
-    }))
-    (λ u. at (cond-false (whole t) _ _ u) (record {
-      sound = soundp_cut_value k t c s w h.sound u;
-      is = ap (flat k) (h.is ∙ flat_broken t r (flatp no_pairs []) u);
-      all = λ b. refl;
-    }))
-    (cases_Bool (whole t))
-  where
-    at : {x : Pairs × List Record} → values k (t, r) f ≡ x → Readsp (flat k es) x.0 x.1 → Readsp (flat k es) (values k (t, r) f).0 (values k (t, r) f).1
-    at e q = subst (λ x. Readsp (flat k es) x.0 x.1) (sym e) q
+values_reads k es t r f c s w h p = cond_both (whole t) (pair k t (f r).0, (f r).1) (pair k t no_pairs, []) (λ (x : Pairs × List Record). Readsp (flat k es) x.0 x.1)
+    (λ u. let q = p u in record { sound = soundp_from k t (f r).0 c s w h.sound u q.sound; is = ap (flat k) (h.is ∙ ap (flat t) q.is); all = λ b. q.all (grind arith) })
+    (λ u. record { sound = soundp_cut_value k t c s w h.sound u; is = ap (flat k) (h.is ∙ flat_broken t r (flatp no_pairs []) u); all = λ b. refl })
 
 entries_reads : (es : List Record) (t : Node) (r : List Record) (g : List Record → Node × List Record) (f : List Record → Pairs × List Record) → Reads es t r
     → (whole t ≡ true → Reads r (g r).0 (g r).1) → (whole t ≡ true → whole (g r).0 ≡ true → Readsp (g r).1 (f (g r).1).0 (f (g r).1).1)
     → Readsp es (entries (t, r) g f).0 (entries (t, r) g f).1
-entries_reads es t r g f h p q = ⊎_elim
-    (λ c. ⊎_elim
-    (λ w. at (entries_whole t r g f c w) (subst (λ l. Readsp l (values t (g r) f).0 (values t (g r) f).1) (sym h.is) (values_reads t r (g r).0 (g r).1 f c h.sound w (p w) (q w))))
-    (λ w. at (entries_broken t r g f c w) (record {
-      sound = soundp_cut_key t c h.sound w;
-      is = h.is ∙ flat_broken t r [] w;
-      all = λ b. refl;
-    }))
-    (cases_Bool (whole t)))
-    (λ x. let (k, s, e) = x in at (ap (λ u. entries (u, r) g f) e) (record { sound = tt; is = h.is ∙ ap (λ u. flat u r) e; all = λ b. cc }))
-    (cut_cases map_end t)
-  where
-    at : {x : Pairs × List Record} → entries (t, r) g f ≡ x → Readsp es x.0 x.1 → Readsp es (entries (t, r) g f).0 (entries (t, r) g f).1
-    at e y = subst (λ x. Readsp es x.0 x.1) (sym e) y
+entries_reads es t r g f h p q =
+    closed_both map_end (λ k r. (done k, r)) (cond (whole t) (values t (g r) f) (pair t (cut ended) no_pairs, [])) t (λ (x : Pairs × List Record). Readsp es x.0 x.1)
+    (λ c. cond_both (whole t) (values t (g r) f) (pair t (cut ended) no_pairs, []) (λ (x : Pairs × List Record). Readsp es x.0 x.1)
+    (λ w. subst (λ l. Readsp l (values t (g r) f).0 (values t (g r) f).1) (sym h.is) (values_reads t r (g r).0 (g r).1 f c h.sound w (p w) (q w)))
+    (λ w. record { sound = soundp_cut_key t c h.sound w; is = h.is ∙ flat_broken t r [] w; all = λ b. refl }))
+    (λ k s e. record { sound = tt; is = h.is ∙ ap (λ u. flat u r) e; all = λ b. cc })
 
 -- what is left is shorter
 less : (n : ℕ) (es : List Record) (t : Node) (r : List Record) → Reads es t r → whole t ≡ true → 2 * length es < n → 2 * length r + 1 < n
-less n es t r h w b = bounded n t r w (subst (λ l. 2 * length l < n) h.is b)
+less n es t r h w b = grind (arith, bounded n t r w)
 
 mutual
   node_reads : (n : ℕ) (es : List Record) → 2 * length es < n → Reads es (node n es).0 (node n es).1
@@ -266,10 +233,7 @@ mutual
 
   nodes_reads : (n : ℕ) (es : List Record) → 2 * length es + 1 < n → Readss es (nodes n es).0 (nodes n es).1
   nodes_reads zero es h = absurd (omega arith)
-  nodes_reads (suc n) es h =
-      let x = node n es in
-      let a = node_reads n es (omega arith) in
-      elements_reads es x.0 x.1 (nodes n) a (λ w. nodes_reads n x.1 (less n es x.0 x.1 a w (omega arith)))
+  nodes_reads (suc n) es h = grind (arith, node n es, node_reads n es, elements_reads es, nodes n, nodes_reads n, less n es)
 
   pairs_reads : (n : ℕ) (es : List Record) → 2 * length es + 1 < n → Readsp es (pairs n es).0 (pairs n es).1
   pairs_reads zero es h = absurd (omega arith)

@@ -1,14 +1,13 @@
 -- What bars a node behind others, as at the start of what is left.
-use Rattle.std.proofs.Common.{◌≡◌, ℕ, ◌+◌, ◌-◌, Bool, cond, ltb, Some, None, Option, sym, refl, ap, ◌∙◌, ap₂, add_assoc, arith}
+use Rattle.std.proofs.Common.{◌≡◌, ℕ, ◌+◌, ◌-◌, Bool, cond, ltb, Some, None, Option, sym, refl, ◌∙◌, ap₂, arith}
 use Rattle.std.proofs.lemmas.Bool.Decides.{nat_tests}
 use Rattle.records.specs.declared.record.Event.{Event}
-use Rattle.records.specs.declared.refusal.Reason.TheVariants.{UnexpectedContainerEnd}
 use Rattle.nodes.specs.Tree.{Mark, Node, Nodes, Pairs, size, scalar_event, seq_event, map_event}
 use Rattle.nodes.specs.Tree.Cut.{ended, stray}
 use Rattle.nodes.specs.Tree.Node.{scalar, alias, seq, dict, cut}
 use Rattle.nodes.specs.Tree.Nodes.{none, more}
 use Rattle.nodes.specs.Tree.Pairs.{done, pair}
-use Rattle.nodes.specs.Reading.{Limits, Bar, or_else, bar_at, slot_at, place_at, start_at, bars, barss, barsp}
+use Rattle.nodes.specs.Reading.{Limits, Bar, or_else, slot_at, place_at, start_at, bars, barss, barsp}
 use Rattle.nodes.specs.Taking.{less, later}
 
 ltb_shift : (n i m : ℕ) → ltb (n + i) m ≡ ltb i (m - n)
@@ -38,16 +37,15 @@ module _ (l : Limits) (n : ℕ) where
     pub bars-shift : (d i : ℕ) (t : Node) → bars l d (n + i) t ≡ later n (bars (less n l) d i t)
     bars-shift d i (scalar k x) = else_shift n (slot_at (less n l) i k) _ (slot_shift i k) (place_shift i k (scalar_event x))
     bars-shift d i (alias k a) = slot_shift i k
-    bars-shift d i (seq k h ns) = else_shift n (start_at (less n l) d i k (seq_event h)) _ (start_shift d i k (seq_event h)) (ap (λ j. barss l (d - 1) j ns) (omega arith) ∙ barss-shift (d - 1) (i + 1) ns)
-    bars-shift d i (dict k h ps) = else_shift n (start_at (less n l) d i k (map_event h)) _ (start_shift d i k (map_event h)) (ap (λ j. barsp l (d - 1) j ps) (omega arith) ∙ barsp-shift (d - 1) (i + 1) ps)
+    bars-shift d i (seq k h ns) = grind (arith, else_shift, start_shift d i k (seq_event h), barss-shift (d - 1) (i + 1) ns)
+    bars-shift d i (dict k h ps) = grind (arith, else_shift, start_shift d i k (map_event h), barsp-shift (d - 1) (i + 1) ps)
     bars-shift d i (cut ended) = refl
-    bars-shift d i (cut (stray k e r)) = ap (λ j. Some (bar_at UnexpectedContainerEnd k j)) (add_assoc n i 1)
+    bars-shift d i (cut (stray k e r)) = grind arith
 
     pub barss-shift : (d i : ℕ) (ns : Nodes) → barss l d (n + i) ns ≡ later n (barss (less n l) d i ns)
     barss-shift d i (none k) = slot_shift i k
-    barss-shift d i (more t ns) = else_shift n (bars (less n l) d i t) _ (bars-shift d i t) (ap (λ j. barss l d j ns) (omega arith) ∙ barss-shift d (i + size t) ns)
+    barss-shift d i (more t ns) = grind (arith, else_shift, bars-shift d i t, barss-shift d (i + size t) ns)
 
     pub barsp-shift : (d i : ℕ) (ps : Pairs) → barsp l d (n + i) ps ≡ later n (barsp (less n l) d i ps)
     barsp-shift d i (done k) = slot_shift i k
-    barsp-shift d i (pair k v ps) = else_shift n (bars (less n l) d i k) _ (bars-shift d i k)
-        (else_shift n (bars (less n l) d (i + size k) v) _ (ap (λ j. bars l d j v) (omega arith) ∙ bars-shift d (i + size k) v) (ap (λ j. barsp l d j ps) (omega arith) ∙ barsp-shift d (i + size k + size v) ps))
+    barsp-shift d i (pair k v ps) = grind (arith, else_shift, bars-shift d i k, bars-shift d (i + size k) v, barsp-shift d (i + size k + size v) ps)

@@ -8,15 +8,14 @@ use Rattle.records.specs.declared.options.DuplicateKeyPolicy.{DuplicateKeyPolicy
 use Rattle.records.specs.declared.options.DuplicateKeyPolicy.TheVariants.{Error, FirstWins, LastWins}
 use Rattle.records.specs.declared.record.Event.{Event}
 use Rattle.records.specs.declared.refusal.Reason.{Reason}
-use Rattle.records.specs.declared.refusal.Reason.TheVariants.{RackFull, PlaceOutsideRackText, TooDeep, EntriesFull}
+use Rattle.records.specs.declared.refusal.Reason.TheVariants.{TooDeep, EntriesFull}
 use Rattle.records.specs.declared.refusal.Refusal.{Refusal}
-use Rattle.records.specs.Places.{placed}
 use Rattle.events.specs.Meaning.{known}
 use Rattle.nodes.specs.Tree.{Mark, Node, Nodes, Pairs, scalar_event, seq_event, map_event, size, whole, wholes, wholep}
 use Rattle.nodes.specs.Tree.Node.{scalar, alias, seq, dict, cut}
 use Rattle.nodes.specs.Tree.Nodes.{none, more}
 use Rattle.nodes.specs.Tree.Pairs.{done, pair}
-use Rattle.nodes.specs.Reading.{Limits, Bar, or_else, bar_at, slot_at, place_at, open_at, start_at, bars, barss, barsp}
+use Rattle.nodes.specs.Reading.{Limits, Bar, or_else, bar_at, slot_at, place_at, start_at, bars, barss, barsp}
 use Rattle.nodes.specs.Fields.{Item, has_key}
 use Rattle.nodes.specs.Repeats.{firsts, not_firsts, lasts, not_lasts, head, refuse_repeat, searched, refuse_merge, dropping, kept_by}
 use Rattle.nodes.specs.Collect.{Stop, Stand, bar_stop, captured, slot_for, place_for, start_for, unknown_at}
@@ -43,33 +42,29 @@ asked false why k i h = h
 
 module _ (l : Limits) where
   slot_asked : (i : ℕ) (k : Mark) → Passable (slot_at l i k)
-  slot_asked i k = asked (ltb i l.room) RackFull k i (λ e. cc)
+  slot_asked i k = grind (arith, asked)
 
   place_asked : (i : ℕ) (k : Mark) (e : Event) → Passable (place_at l i k e)
-  place_asked i k e = asked (placed l.text e) PlaceOutsideRackText k i (λ h. cc)
+  place_asked i k e = grind (arith, asked)
 
   start_asked : (d i : ℕ) (k : Mark) (e : Event) → Passable (start_at l d i k e)
-  start_asked d i k e = passable_or (slot_at l i k) _ (slot_asked i k)
-      (passable_or (place_at l i k e) (open_at d i k) (place_asked i k e) (asked (ltb 0 d) TooDeep k i (λ h. cc)))
+  start_asked d i k e = grind (arith, passable_or, slot_asked i k, place_asked i k e, asked (ltb 0 d) TooDeep k i)
 
   mutual
     bars-asked : (d i : ℕ) (t : Node) → whole t ≡ true → Passable (bars l d i t)
     bars-asked d i (scalar k x) w = passable_or (slot_at l i k) _ (slot_asked i k) (place_asked i k (scalar_event x))
     bars-asked d i (alias k a) w = slot_asked i k
-    bars-asked d i (seq k h ns) w = passable_or (start_at l d i k (seq_event h)) _ (start_asked d i k (seq_event h)) (barss-asked (d - 1) (i + 1) ns w)
-    bars-asked d i (dict k h ps) w = passable_or (start_at l d i k (map_event h)) _ (start_asked d i k (map_event h)) (barsp-asked (d - 1) (i + 1) ps w)
+    bars-asked d i (seq k h ns) w = grind (arith, passable_or, start_asked d i k (seq_event h), barss-asked (d - 1) (i + 1) ns w)
+    bars-asked d i (dict k h ps) w = grind (arith, passable_or, start_asked d i k (map_event h), barsp-asked (d - 1) (i + 1) ps w)
     bars-asked d i (cut c) w = cc
 
     barss-asked : (d i : ℕ) (ns : Nodes) → wholes ns ≡ true → Passable (barss l d i ns)
     barss-asked d i (none k) w = slot_asked i k
-    barss-asked d i (more n ns) w = let (x, y) = and_parts (whole n) (wholes ns) w in passable_or (bars l d i n) _ (bars-asked d i n x) (barss-asked d (i + size n) ns y)
+    barss-asked d i (more n ns) w = grind (arith, and_parts (whole n) (wholes ns) w, passable_or, bars-asked d i n, barss-asked d (i + size n) ns)
 
     barsp-asked : (d i : ℕ) (ps : Pairs) → wholep ps ≡ true → Passable (barsp l d i ps)
     barsp-asked d i (done k) w = slot_asked i k
-    barsp-asked d i (pair k v ps) w =
-        let (x, w') = and_parts (whole k) _ w in
-        let (y, z) = and_parts (whole v) (wholep ps) w' in
-        passable_or (bars l d i k) _ (bars-asked d i k x) (passable_or (bars l d (i + size k) v) _ (bars-asked d (i + size k) v y) (barsp-asked d (i + size k + size v) ps z))
+    barsp-asked d i (pair k v ps) w = grind (arith, and_parts (whole k), and_parts (whole v) (wholep ps), passable_or, bars-asked d i k, bars-asked d (i + size k) v, barsp-asked d (i + size k + size v) ps)
 
 unfull_bar : (looked : Bool) (i : ℕ) (o : Option Bar) → Passable o → Unfull (bar_stop looked i o)
 unfull_bar looked i Nothing h = tt
