@@ -4,7 +4,6 @@ use Rattle.std.proofs.lemmas.Bool.{and_parts, cond_both, ltb-true, ltb-false}
 use Rattle.records.specs.declared.location.Location.{Location}
 use Rattle.records.specs.declared.options.MergeKeyPolicy.{MergeKeyPolicy}
 use Rattle.records.specs.declared.options.MergeKeyPolicy.TheVariants.{Merge, AsOrdinary, Error as NoMerges}
-use Rattle.records.specs.declared.refusal.Reason.TheVariants.{UnknownAlias, MergeValueNotMapOrSeqOfMaps, MergeKeyNotAllowed}
 use Rattle.records.specs.declared.refusal.Refusal.{Refusal}
 use Rattle.events.specs.Meaning.{known}
 use Rattle.nodes.specs.Tree.{Node, Nodes, Pairs, scalar_event, seq_event, map_event, size, sizes, sizep, whole, wholes, wholep}
@@ -24,19 +23,7 @@ abbrev entries : Gathered → ℕ
 entries g = length g.own + length g.brought
 
 pair_parts : (k v : Node) (ps : Pairs) → wholep (pair k v ps) ≡ true → (whole v ≡ true) × (wholep ps ≡ true) × (0 < size k)
-pair_parts k v ps w =
-    let (x, w') = and_parts (whole k) _ w in
-    let (y, z) = and_parts (whole v) (wholep ps) w' in
-    (y, z, size_some k x)
-
-alias_other : Other UnknownAlias
-alias_other e = cc
-
-value_other : Other MergeValueNotMapOrSeqOfMaps
-value_other e = cc
-
-key_other : Other MergeKeyNotAllowed
-key_other e = cc
+pair_parts k v ps w = grind (arith, and_parts (whole k), and_parts (whole v) (wholep ps), size_some k)
 
 module _ (R : Rules) where
   -- Of n records, with u places taken before: a number of entries that fits in the places, and that is at most n where
@@ -137,16 +124,16 @@ module _ (R : Rules) where
         (within-cond entries w u m (is_merge R.text k) _ _
         (within-by-policy entries w u m R.merges _ _ _
         (merge-within b s defers u i k v ps f rest (i + size k + size v) _ (value-within b s defers u (i + size k) v)) own
-        (λ y room. key_other)) own))
+        (λ y room e. cc)) own))
 
     value-within : (b : Basis) (s : Stand) (defers : Bool) (u i : ℕ) (t : Node) → Within length (whole t) u (size t) (merge_value R b s defers u i t)
     value-within b s defers u i (scalar k x) =
         within-after length true u 1 (place_for s i k (scalar_event x)) _ (λ y. unfull_place s i k (scalar_event x))
         (within-cond length true u 1 (null_words R.text x) _ _ (within-after length true u 1 (slot_for s i k) _ (λ y. unfull_slot s i k) (within_none true u 1))
-        (λ y room. value_other))
+        (λ y room e. cc))
     value-within b s defers u i (alias k a) =
         within-cond length true u 1 (known a R.anchors) _ _ (within-after length true u 1 (slot_for s i k) _ (λ y. unfull_slot s i k) (within_none true u 1))
-        (λ y room. alias_other)
+        (λ y room e. cc)
     value-within b s defers u i (seq k h ns) =
         within-after length (wholes ns) u (suc (sizes ns)) (start_for s i k (seq_event h)) _ (λ y. unfull_start s i k (seq_event h))
         (within_more length (wholes ns) u (sizes ns) (suc (sizes ns)) _ (omega arith) (elements-within b (inner s) defers u (i + 1) ns))
@@ -173,23 +160,23 @@ module _ (R : Rules) where
         }))))
 
     expand-within : (l : Location) (u : ℕ) (t : Node) → Within length (whole t) u (size t) (expand R l u t)
-    expand-within l u (scalar k x) = within-cond length true u 1 (null_words R.text x) _ _ (within_none true u 1) (λ y room. value_other)
-    expand-within l u (alias k a) = within-cond length true u 1 (known a R.anchors) _ _ (within_none true u 1) (λ y room. alias_other)
+    expand-within l u (scalar k x) = within-cond length true u 1 (null_words R.text x) _ _ (within_none true u 1) (λ y room e. cc)
+    expand-within l u (alias k a) = within-cond length true u 1 (known a R.anchors) _ _ (within_none true u 1) (λ y room e. cc)
     expand-within l u (seq k h ns) = within_more length (wholes ns) u (sizes ns) (suc (sizes ns)) _ (omega arith) (elements-within _ held false u 0 ns)
     expand-within l u (dict k h ps) = mapping_within (wholep ps) u (sizep ps) (suc (sizep ps)) 0 _ (omega arith) (gather-within _ held false u 0 ps)
     expand-within l u (cut c) = within_none false u 0
 
   collected_within : (b : Basis) (s : Stand) (defers : Bool) (missing : Refusal) (t : Node) → Within length (whole t) 0 (size t) (collected R b s defers missing t)
-  collected_within b s defers missing (scalar k x) = λ y room. value_other
-  collected_within b s true missing (alias k a) = λ y room. value_other
+  collected_within b s defers missing (scalar k x) = λ y room e. cc
+  collected_within b s true missing (alias k a) = λ y room e. cc
   collected_within b s false missing (alias k a) =
-      within-cond length true 0 1 (known a R.anchors) _ _ (λ y room. value_other) (λ y room. alias_other)
-  collected_within b s defers missing (seq k h ns) = λ y room. value_other
+      within-cond length true 0 1 (known a R.anchors) _ _ (λ y room e. cc) (λ y room e. cc)
+  collected_within b s defers missing (seq k h ns) = λ y room e. cc
   collected_within b s defers missing (dict k h ps) =
       within-after length (wholep ps) 0 (suc (sizep ps)) (start_for s 0 k (map_event h)) _ (λ y. unfull_start s 0 k (map_event h))
       (mapping_within (wholep ps) 0 (sizep ps) (suc (sizep ps)) _ _ (omega arith) (gather-within b (inner s) defers 0 1 ps))
   collected_within b s defers missing (cut ended) = λ y. cc
-  collected_within b s defers missing (cut (stray k e r)) = λ y room. value_other
+  collected_within b s defers missing (cut (stray k e r)) = λ y room e. cc
 
   roomy : (w : Bool) (n : ℕ) (r : Result (List Item) Stop) → Within length w 0 n r → w ≡ true → n ≤ R.places → Full r → ⊥
   roomy w n (Ok es) h y room full = full

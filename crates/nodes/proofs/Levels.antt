@@ -14,13 +14,13 @@ use Rattle.nodes.specs.Tree.{Node, Nodes, Pairs, rec, scalar_event, seq_event, m
 use Rattle.nodes.specs.Tree.Node.{scalar, alias, seq, dict, cut}
 use Rattle.nodes.specs.Tree.Nodes.{none, more}
 use Rattle.nodes.specs.Tree.Pairs.{done, pair}
-use Rattle.nodes.specs.Reading.{Limits, opens, opened, slot_at, start_at, bars, barss, barsp}
+use Rattle.nodes.specs.Reading.{Limits, opens, opened, start_at, bars, barss, barsp}
 use Rattle.nodes.proofs.Fits.{neither, slot_free, place_lies, start_free, passed}
 use Rattle.nodes.proofs.Gaps.{past_node}
 
 -- one more event
 pub opened_push : (xs : List Record) (r : Record) → opened (xs ++ r ∷ []) ≡ opens (opened xs) r.event
-opened_push xs r = fold_push (λ now x. opens now x.event) 0 xs r
+opened_push xs r = grind (arith, fold_push)
 
 module _ (l : Limits) where
   -- i events were taken, and d containers may still be opened
@@ -54,9 +54,7 @@ module _ (l : Limits) where
   -- so is each event of a node that nothing bars
   mutual
     pub node-taken : {d i : ℕ} {front : List Record} (t : Node) → Within d i front → bars l d i t ≡ None → Within d (i + size t) (front ++ flat t [])
-    node-taken {d} {i} {front} (scalar k x) s h =
-        let (a, b) = neither (slot_at l i k) _ h in
-        one_more s (rec k (scalar_event x)) d (slot_free l i k a) (place_lies l i k (scalar_event x) b) s.level
+    node-taken {d} {i} {front} (scalar k x) s h = grind (arith, neither, one_more s (rec k (scalar_event x)) d, slot_free, place_lies)
     node-taken {d} {i} {front} (alias k a) s h = one_more s (rec k (RecursiveAlias a)) d (slot_free l i k h) refl s.level
     node-taken {d} {i} {front} (seq k x ns) s h =
         let (a, b) = neither (start_at l d i k (seq_event x)) _ h in
@@ -73,14 +71,14 @@ module _ (l : Limits) where
     node-taken (cut c) s h = cc
 
     pub nodes-taken : {d i : ℕ} {front : List Record} (ns : Nodes) → Within d i front → 0 < opened front → barss l d i ns ≡ None → Within (suc d) (i + sizes ns) (front ++ flats ns [])
-    nodes-taken {d} {i} {front} (none k) s o h = one_more s (rec k SeqEnd) (suc d) (slot_free l i k h) refl (omega (arith, s.level))
+    nodes-taken {d} {i} {front} (none k) s o h = grind (arith, one_more s (rec k SeqEnd) (suc d), slot_free)
     nodes-taken {d} {i} {front} (more n ns) s o h =
         let (a, b) = neither (bars l d i n) _ h in
         let s' = node-taken n s a in
         moved (nodes-taken ns s' (omega (arith, s.level, s'.level)) b) refl (omega arith) (sym (past_node front n (flats ns []) (passed l d i n a).whole))
 
     pub pairs-taken : {d i : ℕ} {front : List Record} (ps : Pairs) → Within d i front → 0 < opened front → barsp l d i ps ≡ None → Within (suc d) (i + sizep ps) (front ++ flatp ps [])
-    pairs-taken {d} {i} {front} (done k) s o h = one_more s (rec k MapEnd) (suc d) (slot_free l i k h) refl (omega (arith, s.level))
+    pairs-taken {d} {i} {front} (done k) s o h = grind (arith, one_more s (rec k MapEnd) (suc d), slot_free)
     pairs-taken {d} {i} {front} (pair k v ps) s o h =
         let (a, h') = neither (bars l d i k) _ h in
         let (b, c) = neither (bars l d (i + size k) v) _ h' in

@@ -1,5 +1,5 @@
 -- A reading breaks off for one reason only, and never where the events begin with a node that fits.
-use Rattle.std.proofs.Common.{◌≡◌, ℕ, suc, ◌+◌, ◌<◌, ◌≤◌, true, false, List, [], ◌∷◌, ◌++◌, length, take, Some, None, Option, sym, refl, ap, ◌∙◌, subst, subst₂, append_assoc, append-nil, arith, length-append}
+use Rattle.std.proofs.Common.{◌≡◌, ℕ, suc, ◌+◌, ◌<◌, ◌≤◌, true, false, List, [], ◌∷◌, ◌++◌, length, take, Some, None, Option, sym, refl, ap, ◌∙◌, subst, append_assoc, append-nil, arith, length-append}
 use lib.Seq.{take-append-add}
 use Rattle.std.specs.List.{AllByRecursion}
 use Rattle.std.proofs.lemmas.List.Elements.{All-contains, All-from_recursion, Contains-append_right}
@@ -115,9 +115,9 @@ module _ (l : Limits) (es : List Record) where
   went {front} s = record { begins = begins_less front _ s.begun.1; short = s.short; inside = s.inside; low = s.low }
 
   one_stop : (b c : Bar) (x : Stop l es b) (y : Stop l es c) → Parted x.front y.front x.rest y.rest → b ≡ c
-  one_stop b c x y (same p q) = one_cause l y.front y.rest b c (subst₂ (λ f r. Cause l f r b) p q x.cause) y.cause
-  one_stop b c x y (shorter r q p e) = absurd (stuck l x.front r _ q b (subst (λ z. Cause l x.front z b) e x.cause) (subst (Went l) p (went y.so_far)))
-  one_stop b c x y (longer r q p e) = absurd (stuck l y.front r _ q c (subst (λ z. Cause l y.front z c) e y.cause) (subst (Went l) p (went x.so_far)))
+  one_stop b c x y (same p q) = grind (arith, one_cause)
+  one_stop b c x y (shorter r q p e) = grind (arith, stuck, went y.so_far)
+  one_stop b c x y (longer r q p e) = grind (arith, stuck, went x.so_far)
 
   pub one_why : (b c : Bar) → Why l es b → Why l es c → b ≡ c
   one_why b c v w =
@@ -141,7 +141,7 @@ module _ (l : Limits) (es : List Record) where
 
   fits_apart : (b : Bar) (x : Stop l es b) (u : Node) (s : List Record) → Fits l u → Parted x.front (flat u []) x.rest s → ⊥
   fits_apart b x u s f (same p q) = unfinished u [] f.unbroken x.so_far (p ∙ sym (append-nil (flat u [])))
-  fits_apart b x u s f (shorter r q p e) = stuck l x.front r _ q b (subst (λ z. Cause l x.front z b) e x.cause) (subst (Went l) p (fits_went u f))
+  fits_apart b x u s f (shorter r q p e) = grind (arith, stuck, fits_went u f)
   fits_apart b x u s f (longer r q p e) = unfinished u (r ∷ q) f.unbroken x.so_far p
 
   pub fits_no_why : (b : Bar) (u : Node) (s : List Record) → es ≡ flat u s → Fits l u → Why l es b → ⊥

@@ -1,5 +1,5 @@
 -- A reading that breaks off does so for the reason that it gives.
-use Rattle.std.proofs.Common.{◌≡◌, ℕ, ◌+◌, ◌-◌, Bool, true, false, cond, ltb, ◌⊎◌, List, [], ◌∷◌, ◌++◌, length, Some, None, Option, sym, refl, ap, ◌∙◌, subst, inl, inr, ⊎_elim, append_assoc, append-nil, arith}
+use Rattle.std.proofs.Common.{◌≡◌, ℕ, ◌+◌, ◌-◌, Bool, true, false, cond, ltb, ◌⊎◌, List, [], ◌∷◌, ◌++◌, length, Some, None, Option, sym, refl, ap, ◌∙◌, subst, ⊎_elim, append_assoc, append-nil, arith}
 use Rattle.std.proofs.lemmas.Bool.{ltb-false}
 use Rattle.records.specs.declared.record.Event.{Event}
 use Rattle.records.specs.declared.record.Event.TheVariants.{SeqEnd, MapEnd, RecursiveAlias}
@@ -22,12 +22,10 @@ use Rattle.nodes.proofs.Levels.{Within, none_taken, one_more, node-taken}
 
 -- the first question that is answered with no
 no_from : (q : Bool) (x b : Bar) → cond q None (Some x) ≡ Some b → (q ≡ false) × (x ≡ b)
-no_from true x b h = cc
-no_from false x b h = (refl, cc)
+no_from q x b h = grind arith
 
 either : (a b : Option Bar) (c : Bar) → or_else a b ≡ Some c → (a ≡ Some c) ⊎ ((a ≡ None) × (b ≡ Some c))
-either None b c h = inr (refl, h)
-either (Some x) b c h = inl h
+either a b c h = grind arith
 
 end_is_end : (e : End) → is_end (end_event e) ≡ true
 end_is_end seq_end = refl
