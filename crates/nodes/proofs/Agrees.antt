@@ -18,7 +18,7 @@ use Rattle.nodes.proofs.Stops.{then_same, then_both, after_yes}
 module _ (R : Rules) (l : Limits) (defers : Bool) where
   field_same : (b : Basis) (d u i : ℕ) (k v : Node) (f g : ℕ → ℕ → Result Gathered Stop) → bars l d (i + size k) v ≡ Nothing → ((n : ℕ) → f n (i + size k + size v) ≡ g n (i + size k + size v))
       → as_field R b (live l d) defers u i k v f ≡ as_field R b held defers u i k v g
-  field_same b d u i k v f g h e = grind (arith, after_yes)
+  field_same b d u i k v f g h e = grind arith
 
   merge_same : (u i : ℕ) (r q : Result (List Item) Stop) (f g : ℕ → ℕ → Result Gathered Stop) → r ≡ q → ((n : ℕ) → f n i ≡ g n i) → as_merge u i r f ≡ as_merge u i q g
   merge_same u i r q f g e h = then_both r q _ _ e (λ new. ap (λ x. and_then x (λ g. Ok (with_brought new g))) (h (u + length new)))
@@ -38,9 +38,9 @@ module _ (R : Rules) (l : Limits) (defers : Bool) where
         (merge_same u (i + size k + size v) _ _ f g (value_same b d u (i + size k) v q) rest) (field_same b d u i k v f g q rest))
 
     pub value_same : (b : Basis) (d u i : ℕ) (t : Node) → bars l d i t ≡ Nothing → merge_value R b (live l d) defers u i t ≡ merge_value R b held defers u i t
-    value_same b d u i (scalar k x) h = grind (arith, neither, after_yes)
-    value_same b d u i (alias k a) h = grind (arith, after_yes)
-    value_same b d u i (seq k x ns) h = grind (arith, neither, after_yes, elements_same b (d - 1) u (i + 1) ns)
+    value_same b d u i (scalar k x) h = grind arith
+    value_same b d u i (alias k a) h = grind arith
+    value_same b d u i (seq k x ns) h = grind (arith, elements_same b (d - 1) u (i + 1) ns)
     value_same b d u i (dict k x ps) h = after_yes _ _ (ap (bar_stop true i) h)
     value_same b d u i (cut c) h = cc
 
@@ -57,7 +57,7 @@ module _ (R : Rules) (l : Limits) (defers : Bool) where
   collected_same b missing (scalar k x) h = refl
   collected_same b missing (alias k a) h = grind arith
   collected_same b missing (seq k x ns) h = refl
-  collected_same b missing (dict k x ps) h = grind (arith, neither, after_yes, gather-same b)
+  collected_same b missing (dict k x ps) h = grind (arith, gather-same b)
   collected_same b missing (cut ended) h = refl
   collected_same b missing (cut (stray k e r)) h = refl
 

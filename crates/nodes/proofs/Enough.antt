@@ -23,7 +23,7 @@ abbrev entries : Gathered → ℕ
 entries g = length g.own + length g.brought
 
 pair_parts : (k v : Node) (ps : Pairs) → wholep (pair k v ps) ≡ true → (whole v ≡ true) × (wholep ps ≡ true) × (0 < size k)
-pair_parts k v ps w = grind (arith, and_parts (whole k), and_parts (whole v) (wholep ps), size_some k)
+pair_parts k v ps w = grind (arith, size_some k)
 
 module _ (R : Rules) where
   -- Of n records, with u places taken before: a number of entries that fits in the places, and that is at most n where

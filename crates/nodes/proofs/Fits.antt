@@ -1,8 +1,7 @@
 -- A node is barred by nothing exactly where it is whole and fits.
-use Rattle.std.proofs.Common.{◌≡◌, ℕ, ◌+◌, ◌-◌, ◌<◌, ◌≤◌, Bool, true, cond, List, [], Some, None, Option, refl, ap₂, arith}
+use Rattle.std.proofs.Common.{◌≡◌, ℕ, ◌+◌, ◌-◌, ◌<◌, ◌≤◌, Bool, true, List, [], None, Option, refl, arith}
 use Rattle.std.specs.List.{AllByRecursion}
-use Rattle.std.proofs.lemmas.Bool.Decides.{nat_tests}
-use Rattle.std.proofs.lemmas.Bool.{and_parts, and_from}
+use Rattle.std.proofs.lemmas.Bool.{and_from}
 use Rattle.records.specs.declared.record.Event.{Event}
 use Rattle.records.specs.declared.record.Record.{Record}
 use Rattle.records.specs.Places.{placed}
@@ -13,21 +12,15 @@ use Rattle.nodes.specs.Tree.Pairs.{done, pair}
 use Rattle.nodes.specs.Reading.{Limits, Bar, or_else, slot_at, place_at, open_at, start_at, bars, barss, barsp, Fits}
 
 -- questions that are answered with yes
-pub yes_from : (q : Bool) (b : Bar) → cond q None (Some b) ≡ None → q ≡ true
-yes_from q b h = grind arith
-
 pub neither : (a b : Option Bar) → or_else a b ≡ None → (a ≡ None) × (b ≡ None)
 neither a b h = grind arith
-
-neither_from : (a b : Option Bar) → a ≡ None → b ≡ None → or_else a b ≡ None
-neither_from a b p q = ap₂ or_else p q
 
 module _ (l : Limits) where
   abbrev Lies : Record → Type 0
   Lies r = placed l.text r.event ≡ true
 
   pub slot_free : (i : ℕ) (k : Mark) → slot_at l i k ≡ None → i < l.room
-  slot_free i k h = grind (arith, nat_tests)
+  slot_free i k h = grind arith
 
   pub place_lies : (i : ℕ) (k : Mark) (e : Event) → place_at l i k e ≡ None → placed l.text e ≡ true
   place_lies i k e h = grind arith
@@ -42,16 +35,7 @@ module _ (l : Limits) where
   start_free d i k e h =
       let (a, h') = neither (slot_at l i k) _ h in
       let (b, c) = neither (place_at l i k e) (open_at d i k) h' in
-      record { free = slot_free i k a; lies = place_lies i k e b; low = grind (arith, nat_tests) }
-
-  slot_from : (i : ℕ) (k : Mark) → i < l.room → slot_at l i k ≡ None
-  slot_from i k h = grind (arith, nat_tests)
-
-  place_from : (i : ℕ) (k : Mark) (e : Event) → placed l.text e ≡ true → place_at l i k e ≡ None
-  place_from i k e h = grind arith
-
-  start_from : (d i : ℕ) (k : Mark) (e : Event) → i < l.room → placed l.text e ≡ true → 0 < d → start_at l d i k e ≡ None
-  start_from d i k e f p h = grind (arith, nat_tests)
+      record { free = slot_free i k a; lies = place_lies i k e b; low = grind arith }
 
   -- what a node is that nothing bars, with what stands behind it
   pub record Passed (d i : ℕ) (unbroken : Bool) (size depth : ℕ) (flat : List Record → List Record) : Type 0 where
@@ -100,19 +84,19 @@ module _ (l : Limits) where
   -- and nothing bars such a node
   mutual
     pub unbarred : (d i : ℕ) (t : Node) (r : List Record) → whole t ≡ true → i + size t ≤ l.room → depth t ≤ d → AllByRecursion Lies (flat t r) → (bars l d i t ≡ None) × AllByRecursion Lies r
-    unbarred d i (scalar k x) r w s h p = (neither_from _ _ (slot_from i k (omega arith)) (place_from i k (scalar_event x) p.0), p.1)
-    unbarred d i (alias k a) r w s h p = (slot_from i k (omega arith), p.1)
-    unbarred d i (seq k h' ns) r w s h p = grind (arith, unbarreds (d - 1) (i + 1) ns r w, start_from d i k (seq_event h'))
-    unbarred d i (dict k h' ps) r w s h p = grind (arith, unbarredp (d - 1) (i + 1) ps r w, start_from d i k (map_event h'))
+    unbarred d i (scalar k x) r w s h p = grind arith
+    unbarred d i (alias k a) r w s h p = grind arith
+    unbarred d i (seq k h' ns) r w s h p = grind (arith, unbarreds (d - 1) (i + 1) ns r w)
+    unbarred d i (dict k h' ps) r w s h p = grind (arith, unbarredp (d - 1) (i + 1) ps r w)
     unbarred d i (cut c) r w s h p = cc
 
     pub unbarreds : (d i : ℕ) (ns : Nodes) (r : List Record) → wholes ns ≡ true → i + sizes ns ≤ l.room → depths ns ≤ d → AllByRecursion Lies (flats ns r) → (barss l d i ns ≡ None) × AllByRecursion Lies r
-    unbarreds d i (none k) r w s h p = (slot_from i k (omega arith), p.1)
-    unbarreds d i (more n ns) r w s h p = grind (arith, and_parts (whole n) (wholes ns) w, unbarred d i n (flats ns r), unbarreds d (i + size n) ns r)
+    unbarreds d i (none k) r w s h p = grind arith
+    unbarreds d i (more n ns) r w s h p = grind (arith, unbarred d i n (flats ns r), unbarreds d (i + size n) ns r)
 
     pub unbarredp : (d i : ℕ) (ps : Pairs) (r : List Record) → wholep ps ≡ true → i + sizep ps ≤ l.room → depthp ps ≤ d → AllByRecursion Lies (flatp ps r) → (barsp l d i ps ≡ None) × AllByRecursion Lies r
-    unbarredp d i (done k) r w s h p = (slot_from i k (omega arith), p.1)
-    unbarredp d i (pair k v ps) r w s h p = grind (arith, and_parts (whole k), and_parts (whole v) (wholep ps), unbarred d i k (flat v (flatp ps r)), unbarred d (i + size k) v (flatp ps r), unbarredp d (i + size k + size v) ps r)
+    unbarredp d i (done k) r w s h p = grind arith
+    unbarredp d i (pair k v ps) r w s h p = grind (arith, unbarred d i k (flat v (flatp ps r)), unbarred d (i + size k) v (flatp ps r), unbarredp d (i + size k + size v) ps r)
 
   pub fits_barred : (t : Node) → Fits l t → bars l l.deep 0 t ≡ None
   fits_barred t f = (unbarred l.deep 0 t [] f.unbroken (let s = f.short in omega arith) f.low f.inside).0

@@ -1,7 +1,6 @@
 -- The records of a node: how many they are, and what stands behind them.
 use Rattle.std.proofs.Common.{◌≡◌, ◌+◌, ◌<◌, true, false, List, [], ◌∷◌, ◌++◌, length, take, drop, refl, ap, ◌∙◌, arith}
 use Rattle.std.proofs.lemmas.List.{take_at, drop_at}
-use Rattle.std.proofs.lemmas.Bool.{and_parts, and_cases}
 use Rattle.records.specs.declared.record.Event.TheVariants.{RecursiveAlias}
 use Rattle.records.specs.declared.record.Record.{Record}
 use Rattle.nodes.specs.Tree.{Node, Nodes, Pairs, rec, scalar_event, seq_event, map_event, flat, flats, flatp, size, sizes, sizep, whole, wholes, wholep}
@@ -21,11 +20,11 @@ mutual
 
   pub flats_behind : (ns : Nodes) (r x : List Record) → wholes ns ≡ true → flats ns (r ++ x) ≡ flats ns r ++ x
   flats_behind (none k) r x w = refl
-  flats_behind (more n ns) r x w = grind (arith, and_parts (whole n) (wholes ns) w, flats_behind ns r x, flat_behind n (flats ns r) x)
+  flats_behind (more n ns) r x w = grind (arith, flats_behind ns r x, flat_behind n (flats ns r) x)
 
   pub flatp_behind : (ps : Pairs) (r x : List Record) → wholep ps ≡ true → flatp ps (r ++ x) ≡ flatp ps r ++ x
   flatp_behind (done k) r x w = refl
-  flatp_behind (pair k v ps) r x w = grind (arith, and_parts (whole k), and_parts (whole v) (wholep ps), flatp_behind ps r x, flat_behind v (flatp ps r) x, flat_behind k (flat v (flatp ps r)) x)
+  flatp_behind (pair k v ps) r x w = grind (arith, flatp_behind ps r x, flat_behind v (flatp ps r) x, flat_behind k (flat v (flatp ps r)) x)
 
 pub flat_append : (t : Node) (r : List Record) → whole t ≡ true → flat t r ≡ flat t [] ++ r
 flat_append t r w = flat_behind t [] r w
@@ -47,11 +46,11 @@ mutual
 
   pub size_flats : (ns : Nodes) (r : List Record) → wholes ns ≡ true → length (flats ns r) ≡ sizes ns + length r
   size_flats (none k) r w = omega arith
-  size_flats (more n ns) r w = grind (arith, and_parts (whole n) (wholes ns) w, size_flat n (flats ns r), size_flats ns r)
+  size_flats (more n ns) r w = grind (arith, size_flat n (flats ns r), size_flats ns r)
 
   pub size_flatp : (ps : Pairs) (r : List Record) → wholep ps ≡ true → length (flatp ps r) ≡ sizep ps + length r
   size_flatp (done k) r w = omega arith
-  size_flatp (pair k v ps) r w = grind (arith, and_parts (whole k), and_parts (whole v) (wholep ps), size_flat k (flat v (flatp ps r)), size_flat v (flatp ps r), size_flatp ps r)
+  size_flatp (pair k v ps) r w = grind (arith, size_flat k (flat v (flatp ps r)), size_flat v (flatp ps r), size_flatp ps r)
 
 -- a whole node has a record
 pub size_some : (t : Node) → whole t ≡ true → 0 < size t
@@ -95,8 +94,8 @@ mutual
 
   pub flats_broken : (ns : Nodes) (r s : List Record) → wholes ns ≡ false → flats ns r ≡ flats ns s
   flats_broken (none k) r s w = cc
-  flats_broken (more n ns) r s w = grind (arith, flat_broken n (flats ns r) (flats ns s), flats_broken ns r s, and_cases (whole n) (wholes ns) w)
+  flats_broken (more n ns) r s w = grind (arith, flat_broken n (flats ns r) (flats ns s), flats_broken ns r s)
 
   pub flatp_broken : (ps : Pairs) (r s : List Record) → wholep ps ≡ false → flatp ps r ≡ flatp ps s
   flatp_broken (done k) r s w = cc
-  flatp_broken (pair k v ps) r s w = grind (arith, flat_broken k (flat v (flatp ps r)) (flat v (flatp ps s)), flat_broken v (flatp ps r) (flatp ps s), flatp_broken ps r s, and_cases (whole v) (wholep ps), and_cases (whole k))
+  flatp_broken (pair k v ps) r s w = grind (arith, flat_broken k (flat v (flatp ps r)) (flat v (flatp ps s)), flat_broken v (flatp ps r) (flatp ps s), flatp_broken ps r s)

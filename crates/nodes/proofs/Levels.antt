@@ -54,7 +54,7 @@ module _ (l : Limits) where
   -- so is each event of a node that nothing bars
   mutual
     pub node-taken : {d i : ℕ} {front : List Record} (t : Node) → Within d i front → bars l d i t ≡ None → Within d (i + size t) (front ++ flat t [])
-    node-taken {d} {i} {front} (scalar k x) s h = grind (arith, neither, one_more s (rec k (scalar_event x)) d, slot_free, place_lies)
+    node-taken {d} {i} {front} (scalar k x) s h = grind (arith, one_more s (rec k (scalar_event x)) d, slot_free, place_lies)
     node-taken {d} {i} {front} (alias k a) s h = one_more s (rec k (RecursiveAlias a)) d (slot_free l i k h) refl s.level
     node-taken {d} {i} {front} (seq k x ns) s h =
         let (a, b) = neither (start_at l d i k (seq_event x)) _ h in

@@ -233,7 +233,7 @@ mutual
 
   nodes_reads : (n : ℕ) (es : List Record) → 2 * length es + 1 < n → Readss es (nodes n es).0 (nodes n es).1
   nodes_reads zero es h = absurd (omega arith)
-  nodes_reads (suc n) es h = grind (arith, node n es, node_reads n es, elements_reads es, nodes n, nodes_reads n, less n es)
+  nodes_reads (suc n) es h = grind (arith, node_reads n es, elements_reads es, nodes_reads n, less n es)
 
   pairs_reads : (n : ℕ) (es : List Record) → 2 * length es + 1 < n → Readsp es (pairs n es).0 (pairs n es).1
   pairs_reads zero es h = absurd (omega arith)

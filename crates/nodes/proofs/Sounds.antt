@@ -68,4 +68,4 @@ mutual
 
   pub whole_soundp : (ps : Pairs) → wholep ps ≡ true → Soundp ps
   whole_soundp (done k) w = tt
-  whole_soundp (pair k v ps) w = grind (arith, and_parts (whole k), and_parts (whole v) (wholep ps), soundp_from k v ps, whole_uncut map_end k, whole_sound k, whole_sound v, whole_soundp ps)
+  whole_soundp (pair k v ps) w = grind (arith, whole_sound k, whole_sound v, whole_soundp ps)

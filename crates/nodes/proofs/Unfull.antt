@@ -1,6 +1,6 @@
 -- What bars a whole node, and what refuses its keys, is no want of an entry place.
-use Rattle.std.proofs.Common.{◌≡◌, ℕ, suc, ◌+◌, ◌-◌, ◌≤◌, Bool, true, false, cond, ltb, List, [], ◌∷◌, ◌++◌, reverse, length, Some, None as Nothing, Ok, Err, Option, Result, arith}
-use Rattle.std.proofs.lemmas.Bool.{and_parts, cond_both}
+use Rattle.std.proofs.Common.{◌≡◌, ℕ, suc, ◌+◌, ◌-◌, ◌≤◌, Bool, true, false, List, [], ◌∷◌, ◌++◌, reverse, length, Some, None as Nothing, Ok, Err, Option, Result, arith}
+use Rattle.std.proofs.lemmas.Bool.{cond_both}
 use Rattle.records.specs.declared.location.Location.{Location}
 use Rattle.records.specs.declared.options.MergeKeyPolicy.{MergeKeyPolicy}
 use Rattle.records.specs.declared.options.MergeKeyPolicy.TheVariants.{Merge, AsOrdinary, Error as NoMerges}
@@ -8,14 +8,14 @@ use Rattle.records.specs.declared.options.DuplicateKeyPolicy.{DuplicateKeyPolicy
 use Rattle.records.specs.declared.options.DuplicateKeyPolicy.TheVariants.{Error, FirstWins, LastWins}
 use Rattle.records.specs.declared.record.Event.{Event}
 use Rattle.records.specs.declared.refusal.Reason.{Reason}
-use Rattle.records.specs.declared.refusal.Reason.TheVariants.{TooDeep, EntriesFull}
+use Rattle.records.specs.declared.refusal.Reason.TheVariants.{EntriesFull}
 use Rattle.records.specs.declared.refusal.Refusal.{Refusal}
 use Rattle.events.specs.Meaning.{known}
-use Rattle.nodes.specs.Tree.{Mark, Node, Nodes, Pairs, scalar_event, seq_event, map_event, size, whole, wholes, wholep}
+use Rattle.nodes.specs.Tree.{Mark, Node, Nodes, Pairs, size, whole, wholes, wholep}
 use Rattle.nodes.specs.Tree.Node.{scalar, alias, seq, dict, cut}
 use Rattle.nodes.specs.Tree.Nodes.{none, more}
 use Rattle.nodes.specs.Tree.Pairs.{done, pair}
-use Rattle.nodes.specs.Reading.{Limits, Bar, or_else, bar_at, slot_at, place_at, start_at, bars, barss, barsp}
+use Rattle.nodes.specs.Reading.{Limits, Bar, slot_at, place_at, start_at, bars, barss, barsp}
 use Rattle.nodes.specs.Fields.{Item, has_key}
 use Rattle.nodes.specs.Repeats.{firsts, not_firsts, lasts, not_lasts, head, refuse_repeat, searched, refuse_merge, dropping, kept_by}
 use Rattle.nodes.specs.Collect.{Stop, Stand, bar_stop, captured, slot_for, place_for, start_for, unknown_at}
@@ -32,39 +32,31 @@ abbrev pub Unfull : Option Stop → Type 0
 Unfull Nothing = Unit {0}
 Unfull (Some s) = Other s.why.reason
 
-passable_or : (a b : Option Bar) → Passable a → Passable b → Passable (or_else a b)
-passable_or Nothing b x y = y
-passable_or (Some c) b x y = x
-
-asked : (q : Bool) (why : Reason) (k : Mark) (i : ℕ) → Other why → Passable (cond q Nothing (Some (bar_at why k i)))
-asked true why k i h = tt
-asked false why k i h = h
-
 module _ (l : Limits) where
   slot_asked : (i : ℕ) (k : Mark) → Passable (slot_at l i k)
-  slot_asked i k = grind (arith, asked)
+  slot_asked i k = grind arith
 
   place_asked : (i : ℕ) (k : Mark) (e : Event) → Passable (place_at l i k e)
-  place_asked i k e = grind (arith, asked)
+  place_asked i k e = grind arith
 
   start_asked : (d i : ℕ) (k : Mark) (e : Event) → Passable (start_at l d i k e)
-  start_asked d i k e = grind (arith, passable_or, slot_asked i k, place_asked i k e, asked (ltb 0 d) TooDeep k i)
+  start_asked d i k e = grind arith
 
   mutual
     bars-asked : (d i : ℕ) (t : Node) → whole t ≡ true → Passable (bars l d i t)
-    bars-asked d i (scalar k x) w = passable_or (slot_at l i k) _ (slot_asked i k) (place_asked i k (scalar_event x))
-    bars-asked d i (alias k a) w = slot_asked i k
-    bars-asked d i (seq k h ns) w = grind (arith, passable_or, start_asked d i k (seq_event h), barss-asked (d - 1) (i + 1) ns w)
-    bars-asked d i (dict k h ps) w = grind (arith, passable_or, start_asked d i k (map_event h), barsp-asked (d - 1) (i + 1) ps w)
+    bars-asked d i (scalar k x) w = grind arith
+    bars-asked d i (alias k a) w = grind arith
+    bars-asked d i (seq k h ns) w = grind (arith, barss-asked (d - 1) (i + 1) ns w)
+    bars-asked d i (dict k h ps) w = grind (arith, barsp-asked (d - 1) (i + 1) ps w)
     bars-asked d i (cut c) w = cc
 
     barss-asked : (d i : ℕ) (ns : Nodes) → wholes ns ≡ true → Passable (barss l d i ns)
-    barss-asked d i (none k) w = slot_asked i k
-    barss-asked d i (more n ns) w = grind (arith, and_parts (whole n) (wholes ns) w, passable_or, bars-asked d i n, barss-asked d (i + size n) ns)
+    barss-asked d i (none k) w = grind arith
+    barss-asked d i (more n ns) w = grind (arith, bars-asked d i n, barss-asked d (i + size n) ns)
 
     barsp-asked : (d i : ℕ) (ps : Pairs) → wholep ps ≡ true → Passable (barsp l d i ps)
-    barsp-asked d i (done k) w = slot_asked i k
-    barsp-asked d i (pair k v ps) w = grind (arith, and_parts (whole k), and_parts (whole v) (wholep ps), passable_or, bars-asked d i k, bars-asked d (i + size k) v, barsp-asked d (i + size k + size v) ps)
+    barsp-asked d i (done k) w = grind arith
+    barsp-asked d i (pair k v ps) w = grind (arith, bars-asked d i k, bars-asked d (i + size k) v, barsp-asked d (i + size k + size v) ps)
 
 unfull_bar : (looked : Bool) (i : ℕ) (o : Option Bar) → Passable o → Unfull (bar_stop looked i o)
 unfull_bar looked i Nothing h = tt
