@@ -1,9 +1,8 @@
 -- No more fields are collected than there are places, or records in a whole node, for which as many places are enough.
-use Rattle.std.proofs.Common.{◌≡◌, ℕ, suc, ◌+◌, ◌<◌, ◌≤◌, Bool, true, false, cond, ltb, List, [], ◌++◌, length, Some, None as Nothing, Ok, Err, Option, Result, subst, arith, length-append}
+use Rattle.std.proofs.Common.{◌≡◌, ℕ, suc, ◌+◌, ◌<◌, ◌≤◌, Bool, true, false, cond, ltb, List, [], ◌++◌, length, Ok, Err, Option, Result, subst, arith, length-append}
 use Rattle.std.proofs.lemmas.Bool.{and_parts, cond_both, ltb-true, ltb-false}
 use Rattle.records.specs.declared.location.Location.{Location}
 use Rattle.records.specs.declared.options.MergeKeyPolicy.{MergeKeyPolicy}
-use Rattle.records.specs.declared.options.MergeKeyPolicy.TheVariants.{Merge, AsOrdinary, Error as NoMerges}
 use Rattle.records.specs.declared.refusal.Refusal.{Refusal}
 use Rattle.events.specs.Meaning.{known}
 use Rattle.nodes.specs.Tree.{Node, Nodes, Pairs, scalar_event, seq_event, map_event, size, sizes, sizep, whole, wholes, wholep}
@@ -44,21 +43,16 @@ module _ (R : Rules) where
 
   module _ {B : Type 0} (c : B → ℕ) (w : Bool) (u n : ℕ) where
     within-after : (o : Option Stop) (r : Result B Stop) → (w ≡ true → Unfull o) → Within c w u n r → Within c w u n (after o r)
-    within-after Nothing r o h = h
-    within-after (Some s) r o h = λ y room. o y
+    within-after o r h p = grind arith
 
     within-at : (j : ℕ) (r : Result B Stop) → Within c w u n r → Within c w u n (at j r)
-    within-at j (Ok x) h = h
-    within-at j (Err s) h = h
+    within-at j r h = grind arith
 
     within-cond : (q : Bool) (r r' : Result B Stop) → Within c w u n r → Within c w u n r' → Within c w u n (cond q r r')
-    within-cond true r r' x y = x
-    within-cond false r r' x y = y
+    within-cond q r r' x y = grind arith
 
     within-by-policy : (m : MergeKeyPolicy) (r r' e : Result B Stop) → Within c w u n r → Within c w u n r' → Within c w u n e → Within c w u n (by_policy m r r' e)
-    within-by-policy Merge r r' e x y z = x
-    within-by-policy AsOrdinary r r' e x y z = y
-    within-by-policy NoMerges r r' e x y z = z
+    within-by-policy m r r' e x y z = grind arith
 
     within_more : (m : ℕ) (r : Result B Stop) → n ≤ m → Within c w u n r → Within c w u m r
     within_more m (Ok x) l h = record { fits = h.fits; few = λ y. let p = h.few y in omega arith }

@@ -1,9 +1,8 @@
 -- With fewer entry places collecting answers the same, or that they are full.
-use Rattle.std.proofs.Common.{◌≡◌, ℕ, ◌+◌, ◌≤◌, Bool, true, false, cond, ltb, ◌⊎◌, List, length, Some, None as Nothing, Ok, Err, Option, Result, refl, ap, inl, inr, ⊎_elim, arith}
-use Rattle.std.proofs.lemmas.Bool.{false≢true, ltb-true, lt-ltb}
+use Rattle.std.proofs.Common.{◌≡◌, ℕ, ◌+◌, ◌≤◌, Bool, true, false, cond, ltb, ◌⊎◌, List, length, Option, Result, refl, inr, arith}
+use Rattle.std.proofs.lemmas.Bool.{ltb-true, lt-ltb}
 use Rattle.records.specs.declared.location.Location.{Location}
 use Rattle.records.specs.declared.options.MergeKeyPolicy.{MergeKeyPolicy}
-use Rattle.records.specs.declared.options.MergeKeyPolicy.TheVariants.{Merge, AsOrdinary, Error as NoMerges}
 use Rattle.records.specs.declared.refusal.Refusal.{Refusal}
 use Rattle.nodes.specs.Tree.{Node, Nodes, Pairs, size}
 use Rattle.nodes.specs.Tree.Cut.{ended, stray}
@@ -21,43 +20,33 @@ Short r q = Full r ⊎ (r ≡ q)
 
 module _ {A B : Type 0} where
   full_then : (r : Result A Stop) (f : A → Result B Stop) → Full r → Full (and_then r f)
-  full_then (Ok x) f h = absurd h
-  full_then (Err s) f h = h
+  full_then r f h = grind arith
 
   same_then : (r : Result A Stop) (f g : A → Result B Stop) → ((x : A) → Short (f x) (g x)) → Short (and_then r f) (and_then r g)
-  same_then (Ok x) f g h = h x
-  same_then (Err s) f g h = inr refl
+  same_then r f g h = grind arith
 
   short_then : (r q : Result A Stop) (f g : A → Result B Stop) → Short r q → ((x : A) → Short (f x) (g x)) → Short (and_then r f) (and_then q g)
-  short_then r q f g (inl full) h = inl (full_then r f full)
-  short_then r q f g (inr e) h = rw (← e) (same_then r f g h)
+  short_then r q f g x h = grind arith
 
 module _ {B : Type 0} where
   short_after : (o : Option Stop) (r q : Result B Stop) → Short r q → Short (after o r) (after o q)
-  short_after Nothing r q h = h
-  short_after (Some s) r q h = inr refl
+  short_after o r q h = grind arith
 
   full_at : (n : ℕ) (r : Result B Stop) → Full r → Full (at n r)
-  full_at n (Ok x) h = h
-  full_at n (Err s) h = h
+  full_at n r h = grind arith
 
   short_at : (n : ℕ) (r q : Result B Stop) → Short r q → Short (at n r) (at n q)
-  short_at n r q = ⊎_elim (λ full. inl (full_at n r full)) (λ e. inr (ap (at n) e))
+  short_at n r q h = grind arith
 
   short_cond : (b : Bool) (r r' q q' : Result B Stop) → Short r r' → Short q q' → Short (cond b r q) (cond b r' q')
-  short_cond true r r' q q' x y = x
-  short_cond false r r' q q' x y = y
+  short_cond b r r' q q' x y = grind arith
 
   short_by_policy : (m : MergeKeyPolicy) (r r' q q' e : Result B Stop) → Short r r' → Short q q' → Short (by_policy m r q e) (by_policy m r' q' e)
-  short_by_policy Merge r r' q q' e x y = x
-  short_by_policy AsOrdinary r r' q q' e x y = y
-  short_by_policy NoMerges r r' q q' e x y = inr refl
+  short_by_policy m r r' q q' e x y = grind arith
 
   -- where a place is free among fewer, one is free
   short_room : (x y : Bool) (r q e : Result B Stop) → (x ≡ true → y ≡ true) → Full e → Short r q → Short (cond x r e) (cond y q e)
-  short_room true true r q e f full h = h
-  short_room true false r q e f full h = absurd (false≢true (f refl))
-  short_room false y r q e f full h = inl full
+  short_room x y r q e f full h = grind arith
 
 module _ (R : Rules) (p q : ℕ) (few : p ≤ q) where
   field_short : (b : Basis) (s : Stand) (defers : Bool) (u i : ℕ) (k v : Node) (f g : ℕ → ℕ → Result Gathered Stop) → ((n j : ℕ) → Short (f n j) (g n j))

@@ -87,11 +87,7 @@ module _ (text : List ℕ) where
   key_once {es} {n} {l} {o} p q = sym p.stands ∙ ap (own_at l) (sym p.is ∙ q.is) ∙ q.stands
 
   key_size : (k : Node) → is_merge text k ≡ true → 0 < size k
-  key_size (scalar k x) m = omega arith
-  key_size (alias k a) m = cc
-  key_size (seq k h ns) m = cc
-  key_size (dict k h ps) m = cc
-  key_size (cut c) m = cc
+  key_size k m = grind arith
 
   mutual
     inside : {t : Node} {n : ℕ} {l : Location} → MergeAt text t n l → n < size t

@@ -1,5 +1,5 @@
 -- Gaps in a node that is being read: whatever whole node is put there, some events behind it make the whole.
-use Rattle.std.proofs.Common.{◌≡◌, Bool, true, false, List, [], ◌∷◌, ◌++◌, sym, refl, ap, ◌∙◌, subst, append_assoc}
+use Rattle.std.proofs.Common.{◌≡◌, Bool, true, false, List, [], ◌∷◌, ◌++◌, sym, refl, ap, ◌∙◌, subst, append_assoc, arith}
 use Rattle.std.proofs.lemmas.Bool.{both_ways, and_from, and_left, and_right}
 use Rattle.records.specs.declared.record.Record.{Record}
 use Rattle.records.specs.Blank.{blank}
@@ -42,12 +42,10 @@ abbrev pub PairsGap : List Record → Type 0
 PairsGap front = Gap Pairs wholep Soundp flatp front
 
 stops_seq : (s : Spot) (k : Mark) (h : Head) (ns : Nodes) → stops s (seq k h ns) ≡ false
-stops_seq anywhere k h ns = refl
-stops_seq (before e) k h ns = refl
+stops_seq s k h ns = grind arith
 
 stops_dict : (s : Spot) (k : Mark) (h : Head) (ps : Pairs) → stops s (dict k h ps) ≡ false
-stops_dict anywhere k h ps = refl
-stops_dict (before e) k h ps = refl
+stops_dict s k h ps = grind arith
 
 pub at_start : NodeGap anywhere []
 at_start = record { behind = []; filled = λ t w. (t, w, refl); broken = λ t s w. (t, s.1, w, refl) }
@@ -129,11 +127,7 @@ begun_with X unbroken Ok flat' front g x w r rest q = let (u, v, e) = g.filled x
 
 -- an end that is out of place stays so, whatever comes behind it
 stops_stray : (s : Spot) (k : Mark) (e : End) (q r : List Record) → stops s (cut (stray k e q)) ≡ false → stops s (cut (stray k e r)) ≡ false
-stops_stray anywhere k e q r h = refl
-stops_stray (before seq_end) k seq_end q r h = h
-stops_stray (before seq_end) k map_end q r h = h
-stops_stray (before map_end) k seq_end q r h = h
-stops_stray (before map_end) k map_end q r h = h
+stops_stray s k e q r h = grind arith
 
 pub never_begun : (s : Spot) (front : List Record) → NodeGap s front → (k : Mark) (e : End) (q : List Record) → stops s (cut (stray k e q)) ≡ false → Begins (front ++ rec k (end_event e) ∷ []) → ⊥
 never_begun s front g k e q h b =

@@ -1,5 +1,5 @@
 -- What a mapping is collected to: its own fields, which are not marked as merged, and merged ones, which are.
-use Rattle.std.proofs.Common.{◌≡◌, ℕ, ◌+◌, Bool, true, false, ltb, arith, List, [], ◌∷◌, ◌++◌, reverse, length, Some, None as Nothing, Ok, Err, Option, Result, sym, refl, ap, ◌∙◌, subst}
+use Rattle.std.proofs.Common.{◌≡◌, ℕ, ◌+◌, Bool, true, false, ltb, arith, List, [], ◌∷◌, ◌++◌, reverse, length, Ok, Err, Option, Result, sym, refl, ap, ◌∙◌, subst}
 use Rattle.std.specs.List.{All, Contains}
 use Rattle.std.specs.Result.{IfOk}
 use Rattle.std.proofs.lemmas.List.Elements.{All-nil, All-cons, All-head, All-tail, All-append, All-contains, Contains-append_right}
@@ -7,7 +7,6 @@ use Rattle.std.proofs.lemmas.Result.{IfOk-at_ok}
 use Rattle.std.proofs.lemmas.Bool.{cond_both}
 use Rattle.records.specs.declared.location.Location.{Location}
 use Rattle.records.specs.declared.options.MergeKeyPolicy.{MergeKeyPolicy}
-use Rattle.records.specs.declared.options.MergeKeyPolicy.TheVariants.{Merge, AsOrdinary, Error as NoMerges}
 use Rattle.records.specs.declared.options.DuplicateKeyPolicy.{DuplicateKeyPolicy}
 use Rattle.records.specs.declared.options.DuplicateKeyPolicy.TheVariants.{Error, FirstWins, LastWins}
 use Rattle.records.specs.declared.refusal.Refusal.{Refusal}
@@ -19,7 +18,7 @@ use Rattle.nodes.specs.Tree.Nodes.{none, more}
 use Rattle.nodes.specs.Tree.Pairs.{done, pair}
 use Rattle.nodes.specs.Fields.{Rules, Basis, Item, is_merged, is_merge, null_words, reference_at, has_key}
 use Rattle.nodes.specs.Fields.Basis.{direct, expansion}
-use Rattle.nodes.specs.Repeats.{firsts, not_firsts, lasts, not_lasts, head, refuse_repeat, searched, refuse_merge, dropping, kept_by, Distinct}
+use Rattle.nodes.specs.Repeats.{firsts, not_firsts, lasts, not_lasts, head, refuse_repeat, refuse_merge, dropping, kept_by, Distinct}
 use Rattle.nodes.specs.Collect.{Stop, Stand, Gathered, inner, after, and_then, stop_with, captured, slot_for, unknown_at, closed, as_field, as_merge, gather, merge_value, elements, expand, collected}
 use Rattle.nodes.specs.Collect.Stand.{held}
 use Rattle.nodes.specs.Agreeing.{KeysAreUnique}
@@ -41,17 +40,13 @@ module _ (P : Item → Type 0) where
       cond_both (has_key text e es) _ _ (λ l. All P l) (λ p. r) (λ p. All-cons P e _ (All-head P e es h) r)
 
   all_repeat : (es : List Item) (o : Option Item) → All P es → IfOk (refuse_repeat es o) (λ l. All P l)
-  all_repeat es Nothing h = h
-  all_repeat es (Some e) h = tt
+  all_repeat es o h = grind arith
 
   all_merge : (es : List Item) (o : Option Location) → All P es → IfOk (refuse_merge es o) (λ l. All P l)
-  all_merge es Nothing h = h
-  all_merge es (Some l) h = tt
+  all_merge es o h = grind arith
 
   all_dropping : (m : MergeKeyPolicy) (text : List ℕ) (es dropped : List Item) → All P es → IfOk (dropping m text es dropped) (λ l. All P l)
-  all_dropping Merge text es dropped h = h
-  all_dropping AsOrdinary text es dropped h = h
-  all_dropping NoMerges text es dropped h = all_merge es (searched text dropped) h
+  all_dropping m text es dropped h = grind (arith, all_merge)
 
   pub all_kept : (p : DuplicateKeyPolicy) (m : MergeKeyPolicy) (text : List ℕ) (es : List Item) → All P es → IfOk (kept_by p m text es) (λ l. All P l)
   all_kept Error m text es h = all_repeat es (head (not_firsts text [] es)) h

@@ -40,15 +40,7 @@ closed map_end yes' no' (cut (stray k seq_end r)) = no'
 closed map_end yes' no' (cut (stray k map_end r)) = yes' k r
 
 closed_no : {A : Type 0} (e : End) (y : Mark → List Record → A) (n : A) (t : Node) → cut_at e t ≡ false → closed e y n t ≡ n
-closed_no e y n (scalar k x) h = refl
-closed_no e y n (alias k a) h = refl
-closed_no e y n (seq k h' ns) h = refl
-closed_no e y n (dict k h' ps) h = refl
-closed_no e y n (cut ended) h = refl
-closed_no seq_end y n (cut (stray k seq_end r)) h = cc
-closed_no seq_end y n (cut (stray k map_end r)) h = refl
-closed_no map_end y n (cut (stray k seq_end r)) h = refl
-closed_no map_end y n (cut (stray k map_end r)) h = cc
+closed_no e y n t h = grind arith
 
 -- children from a node on, which was read with what is left: none behind it if it breaks off
 abbrev elements : Node × List Record → (List Record → Nodes × List Record) → Nodes × List Record

@@ -5,7 +5,6 @@ use Rattle.std.specs.List.{AllByRecursion}
 use Rattle.std.proofs.lemmas.List.Elements.{All-contains, All-from_recursion, Contains-append_right}
 use Rattle.std.proofs.lemmas.Bool.{both_ways}
 use Rattle.records.specs.declared.record.Event.{Event}
-use Rattle.records.specs.declared.record.Event.TheVariants.{Scalar, SeqStart, SeqEnd, MapStart, MapEnd, RecursiveAlias}
 use Rattle.records.specs.declared.record.Record.{Record}
 use Rattle.records.specs.declared.refusal.Reason.TheVariants.{UnexpectedContainerEnd, RackFull, PlaceOutsideRackText, TooDeep}
 use Rattle.records.specs.Places.{placed}
@@ -91,12 +90,7 @@ begins_less : (xs ys : List Record) → Begins (xs ++ ys) → Begins xs
 begins_less xs ys b = let (u, m, w, e) = b in (u, ys ++ m, w, e ∙ append_assoc xs ys m)
 
 opens_start : (n : ℕ) (e : Event) → is_start e ≡ true → opens n e ≡ suc n
-opens_start n (Scalar a t w s v) h = cc
-opens_start n (SeqStart a t w) h = refl
-opens_start n SeqEnd h = cc
-opens_start n (MapStart a t w) h = refl
-opens_start n MapEnd h = cc
-opens_start n (RecursiveAlias a) h = cc
+opens_start n e h = grind arith
 
 -- what is taken has no cause to stop at
 stuck : (l : Limits) (front : List Record) (r : Record) (rest q : List Record) (b : Bar) → Cause l front (r ∷ rest) b → Went l (front ++ r ∷ q) → ⊥

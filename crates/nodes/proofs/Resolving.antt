@@ -1,21 +1,19 @@
 -- What an accepted collection of a held mapping brings: the mapping with its merges resolved.
-use Rattle.std.proofs.Common.{◌≡◌, ℕ, ◌+◌, true, false, ltb, List, [], ◌∷◌, ◌++◌, length, Ok, Err, Result, sym, refl, ap, ◌∙◌, subst}
+use Rattle.std.proofs.Common.{◌≡◌, ℕ, ◌+◌, true, false, ltb, List, [], ◌∷◌, ◌++◌, length, Ok, Err, Result, sym, refl, ap, ◌∙◌, subst, arith}
 use Rattle.std.specs.Result.{IfOk}
 use Rattle.std.proofs.lemmas.Result.{IfOk-weaker, IfOk-at_ok}
 use Rattle.std.proofs.lemmas.List.Sums.{fold-append}
 use Rattle.std.proofs.lemmas.Bool.{and_parts, cond-true, cond-false}
 use Rattle.records.specs.declared.location.Location.{Location}
-use Rattle.records.specs.declared.location.NodeOrigin.{NodeOrigin}
-use Rattle.records.specs.declared.location.NodeOrigin.TheVariants.{Direct, Alias, Merge as MergeOrigin}
 use Rattle.records.specs.declared.options.MergeKeyPolicy.TheVariants.{Merge}
 use Rattle.records.specs.declared.refusal.Refusal.{Refusal}
-use Rattle.events.specs.Meaning.{known, refers}
+use Rattle.events.specs.Meaning.{known}
 use Rattle.nodes.specs.Tree.{Mark, Head, Node, Nodes, Pairs, size, sizep, whole, wholes, wholep}
 use Rattle.nodes.specs.Tree.Node.{scalar, alias, seq, dict, cut}
 use Rattle.nodes.specs.Tree.Nodes.{none, more}
 use Rattle.nodes.specs.Tree.Pairs.{done, pair}
-use Rattle.nodes.specs.Fields.{Rules, Basis, Item, is_merge, null_words, mark, place, alias_or, reference_at, field_of}
-use Rattle.nodes.specs.Fields.Basis.{direct, expansion}
+use Rattle.nodes.specs.Fields.{Rules, Basis, Item, is_merge, null_words, reference_at, field_of}
+use Rattle.nodes.specs.Fields.Basis.{expansion}
 use Rattle.nodes.specs.Repeats.{kept_by}
 use Rattle.nodes.specs.Collect.{Stop, Gathered, and_then, stop_with, unknown_at, closed, as_field, as_merge, gather, merge_value, elements, expand}
 use Rattle.nodes.specs.Collect.Stand.{held}
@@ -29,18 +27,7 @@ use Rattle.nodes.proofs.Inserting.{effective-++, merged_in_effective}
 
 -- the reference of an element is its own reference again, once it is expanded with it
 reference_again : (b : Basis) (n : Node) → reference_at (expansion (reference_at b n)) n ≡ reference_at b n
-reference_again (direct l) n = go (mark n).origin
-  where
-    go : (o : NodeOrigin) → alias_or (refers o (place n)) o ≡ refers o (place n)
-    go Direct = refl
-    go (Alias a) = refl
-    go (MergeOrigin m) = refl
-reference_again (expansion l) n = go (mark n).origin
-  where
-    go : (o : NodeOrigin) → alias_or (alias_or l o) o ≡ alias_or l o
-    go Direct = refl
-    go (Alias a) = refl
-    go (MergeOrigin m) = refl
+reference_again b n = grind arith
 
 -- fields that come to the same, inserted one by one, as some mappings merged in turn
 record Brings (R : Rules) (Stands : List (List Item) → Type 0) (new : List Item) : Type 0 where

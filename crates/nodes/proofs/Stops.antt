@@ -1,15 +1,14 @@
 -- How answers go on: laws of `after`, `and_then` and `at`, and what holds of whatever is answered.
-use Rattle.std.proofs.Common.{◌≡◌, ℕ, Bool, true, false, cond, Some, None as Nothing, Ok, Err, Option, Result, refl, ap, ◌∙◌}
+use Rattle.std.proofs.Common.{◌≡◌, ℕ, Bool, true, false, cond, None as Nothing, Ok, Err, Option, Result, refl, ap, ◌∙◌, arith}
 use Rattle.std.specs.Result.{IfOk}
 use Rattle.records.specs.declared.options.MergeKeyPolicy.{MergeKeyPolicy}
-use Rattle.records.specs.declared.options.MergeKeyPolicy.TheVariants.{Merge, AsOrdinary, Error as NoMerges}
+use Rattle.records.specs.declared.options.MergeKeyPolicy.TheVariants.{Merge}
 use Rattle.records.specs.declared.refusal.Refusal.{Refusal}
 use Rattle.nodes.specs.Collect.{Stop, and_then, after, at, stop_with, by_policy}
 
 module _ {A B : Type 0} where
   pub then_same : (r : Result A Stop) (f g : A → Result B Stop) → ((x : A) → f x ≡ g x) → and_then r f ≡ and_then r g
-  then_same (Ok x) f g h = h x
-  then_same (Err s) f g h = refl
+  then_same r f g h = grind arith
 
   pub then_both : (r q : Result A Stop) (f g : A → Result B Stop) → r ≡ q → ((x : A) → f x ≡ g x) → and_then r f ≡ and_then q g
   then_both r q f g e h = then_same r f g h ∙ ap (λ z. and_then z g) e
@@ -24,44 +23,34 @@ module _ {B : Type 0} where
   after_yes o r e = ap (λ x. after x r) e
 
   pub after_made : (o : Option Stop) (r : Result B Stop) (y : B) → after o r ≡ Ok y → (o ≡ Nothing) × (r ≡ Ok y)
-  after_made Nothing r y e = (refl, e)
-  after_made (Some s) r y e = cc
+  after_made o r y e = grind arith
 
   pub at_made : (n : ℕ) (r : Result B Stop) (y : B) → at n r ≡ Ok y → r ≡ Ok y
-  at_made n (Ok x) y e = e
-  at_made n (Err s) y e = cc
+  at_made n r y e = grind arith
 
   pub stop_with_made : (n : ℕ) (r : Result B Refusal) (y : B) → stop_with n r ≡ Ok y → r ≡ Ok y
-  stop_with_made n (Ok x) y e = cc
-  stop_with_made n (Err s) y e = cc
+  stop_with_made n r y e = grind arith
 
 -- what holds of whatever is answered
 module _ {A B : Type 0} (P : B → Type 0) (Q : A → Type 0) where
   pub if_ok_then : (r : Result A Stop) (f : A → Result B Stop) → IfOk r Q → ((x : A) → Q x → IfOk (f x) P) → IfOk (and_then r f) P
-  if_ok_then (Ok x) f q h = h x q
-  if_ok_then (Err s) f q h = tt
+  if_ok_then r f q h = grind arith
 
 module _ {B : Type 0} (P : B → Type 0) where
   pub if_ok_after : (o : Option Stop) (r : Result B Stop) → IfOk r P → IfOk (after o r) P
-  if_ok_after Nothing r p = p
-  if_ok_after (Some s) r p = tt
+  if_ok_after o r p = grind arith
 
   pub if_ok_at : (n : ℕ) (r : Result B Stop) → IfOk r P → IfOk (at n r) P
-  if_ok_at n (Ok x) p = p
-  if_ok_at n (Err s) p = tt
+  if_ok_at n r p = grind arith
 
   pub if_ok_stop_with : (n : ℕ) (r : Result B Refusal) → IfOk r P → IfOk (stop_with n r) P
-  if_ok_stop_with n (Ok x) p = p
-  if_ok_stop_with n (Err s) p = tt
+  if_ok_stop_with n r p = grind arith
 
   pub if_ok_cond : (b : Bool) (r q : Result B Stop) → (b ≡ true → IfOk r P) → (b ≡ false → IfOk q P) → IfOk (cond b r q) P
-  if_ok_cond true r q p p' = p refl
-  if_ok_cond false r q p p' = p' refl
+  if_ok_cond b r q p p' = grind arith
 
   pub if_ok_by_policy : (m : MergeKeyPolicy) (r q s : Result B Stop) → IfOk r P → IfOk q P → IfOk s P → IfOk (by_policy m r q s) P
-  if_ok_by_policy Merge r q s x y z = x
-  if_ok_by_policy AsOrdinary r q s x y z = y
-  if_ok_by_policy NoMerges r q s x y z = z
+  if_ok_by_policy m r q s x y z = grind arith
 
   pub if_ok_merge : (m : MergeKeyPolicy) (r q s : Result B Stop) → m ≡ Merge → IfOk r P → IfOk (by_policy m r q s) P
   if_ok_merge m r q s e p = rw e p

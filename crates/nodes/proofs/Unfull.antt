@@ -1,25 +1,22 @@
 -- What bars a whole node, and what refuses its keys, is no want of an entry place.
-use Rattle.std.proofs.Common.{◌≡◌, ℕ, suc, ◌+◌, ◌-◌, ◌≤◌, Bool, true, false, List, [], ◌∷◌, ◌++◌, reverse, length, Some, None as Nothing, Ok, Err, Option, Result, arith}
+use Rattle.std.proofs.Common.{◌≡◌, ℕ, suc, ◌+◌, ◌-◌, ◌≤◌, Bool, true, List, [], ◌∷◌, ◌++◌, reverse, length, Some, None as Nothing, Ok, Err, Option, Result, arith}
 use Rattle.std.proofs.lemmas.Bool.{cond_both}
 use Rattle.records.specs.declared.location.Location.{Location}
 use Rattle.records.specs.declared.options.MergeKeyPolicy.{MergeKeyPolicy}
-use Rattle.records.specs.declared.options.MergeKeyPolicy.TheVariants.{Merge, AsOrdinary, Error as NoMerges}
 use Rattle.records.specs.declared.options.DuplicateKeyPolicy.{DuplicateKeyPolicy}
 use Rattle.records.specs.declared.options.DuplicateKeyPolicy.TheVariants.{Error, FirstWins, LastWins}
 use Rattle.records.specs.declared.record.Event.{Event}
 use Rattle.records.specs.declared.refusal.Reason.{Reason}
 use Rattle.records.specs.declared.refusal.Reason.TheVariants.{EntriesFull}
 use Rattle.records.specs.declared.refusal.Refusal.{Refusal}
-use Rattle.events.specs.Meaning.{known}
 use Rattle.nodes.specs.Tree.{Mark, Node, Nodes, Pairs, size, whole, wholes, wholep}
 use Rattle.nodes.specs.Tree.Node.{scalar, alias, seq, dict, cut}
 use Rattle.nodes.specs.Tree.Nodes.{none, more}
 use Rattle.nodes.specs.Tree.Pairs.{done, pair}
 use Rattle.nodes.specs.Reading.{Limits, Bar, slot_at, place_at, start_at, bars, barss, barsp}
 use Rattle.nodes.specs.Fields.{Item, has_key}
-use Rattle.nodes.specs.Repeats.{firsts, not_firsts, lasts, not_lasts, head, refuse_repeat, searched, refuse_merge, dropping, kept_by}
+use Rattle.nodes.specs.Repeats.{firsts, not_firsts, lasts, not_lasts, head, refuse_repeat, refuse_merge, dropping, kept_by}
 use Rattle.nodes.specs.Collect.{Stop, Stand, bar_stop, captured, slot_for, place_for, start_for, unknown_at}
-use Rattle.nodes.specs.Collect.Stand.{held, live}
 
 abbrev pub Other : Reason → Type 0
 Other why = why ≡ EntriesFull → ⊥
@@ -63,28 +60,19 @@ unfull_bar looked i Nothing h = tt
 unfull_bar looked i (Some b) h = h
 
 pub unfull_captured : (looked : Bool) (s : Stand) (i : ℕ) (t : Node) → whole t ≡ true → Unfull (captured looked s i t)
-unfull_captured looked held i t w = tt
-unfull_captured looked (live l d) i t w = unfull_bar looked i (bars l d i t) (bars-asked l d i t w)
+unfull_captured looked s i t w = grind (arith, bars-asked)
 
 pub unfull_slot : (s : Stand) (i : ℕ) (k : Mark) → Unfull (slot_for s i k)
-unfull_slot held i k = tt
-unfull_slot (live l d) i k = unfull_bar true i (slot_at l i k) (slot_asked l i k)
+unfull_slot s i k = grind arith
 
 pub unfull_place : (s : Stand) (i : ℕ) (k : Mark) (e : Event) → Unfull (place_for s i k e)
-unfull_place held i k e = tt
-unfull_place (live l d) i k e = unfull_bar true i (place_at l i k e) (place_asked l i k e)
+unfull_place s i k e = grind arith
 
 pub unfull_start : (s : Stand) (i : ℕ) (k : Mark) (e : Event) → Unfull (start_for s i k e)
-unfull_start held i k e = tt
-unfull_start (live l d) i k e = unfull_bar true i (start_at l d i k e) (start_asked l d i k e)
+unfull_start s i k e = grind arith
 
 pub unfull_unknown : (defers : Bool) (ks : List ℕ) (i : ℕ) (t : Node) → Unfull (unknown_at defers ks i t)
-unfull_unknown defers ks i (scalar k x) = tt
-unfull_unknown true ks i (alias k a) = tt
-unfull_unknown false ks i (alias k a) = cond_both (known a ks) _ _ Unfull (λ e. tt) (λ e h. cc)
-unfull_unknown defers ks i (seq k h ns) = tt
-unfull_unknown defers ks i (dict k h ps) = tt
-unfull_unknown defers ks i (cut c) = tt
+unfull_unknown defers ks i t = grind arith
 
 -- the policies keep no more fields than there are
 abbrev pub Keeps : ℕ → Result (List Item) Refusal → Type 0
@@ -100,17 +88,13 @@ lasts_few text [] = omega arith
 lasts_few text (e ∷ es) = let h = lasts_few text es in cond_both (has_key text e es) _ _ (λ x. length x ≤ suc (length es)) (λ p. omega arith) (λ p. omega arith)
 
 keeps_repeat : (es : List Item) (o : Option Item) → Keeps (length es) (refuse_repeat es o)
-keeps_repeat es Nothing = omega arith
-keeps_repeat es (Some e) = λ h. cc
+keeps_repeat es o = grind arith
 
 keeps_merge : (n : ℕ) (es : List Item) (o : Option Location) → length es ≤ n → Keeps n (refuse_merge es o)
-keeps_merge n es Nothing h = h
-keeps_merge n es (Some l) h = λ e. cc
+keeps_merge n es o h = grind arith
 
 keeps_dropping : (n : ℕ) (m : MergeKeyPolicy) (text : List ℕ) (es dropped : List Item) → length es ≤ n → Keeps n (dropping m text es dropped)
-keeps_dropping n Merge text es dropped h = h
-keeps_dropping n AsOrdinary text es dropped h = h
-keeps_dropping n NoMerges text es dropped h = keeps_merge n es (searched text dropped) h
+keeps_dropping n m text es dropped h = grind arith
 
 pub keeps : (p : DuplicateKeyPolicy) (m : MergeKeyPolicy) (text : List ℕ) (es : List Item) → Keeps (length es) (kept_by p m text es)
 keeps Error m text es = keeps_repeat es (head (not_firsts text [] es))

@@ -28,8 +28,7 @@ either : (a b : Option Bar) (c : Bar) → or_else a b ≡ Some c → (a ≡ Some
 either a b c h = grind arith
 
 end_is_end : (e : End) → is_end (end_event e) ≡ true
-end_is_end seq_end = refl
-end_is_end map_end = refl
+end_is_end e = grind arith
 
 module _ (l : Limits) (es : List Record) where
   so_far : {d i : ℕ} {front : List Record} → Within l d i front → (r : Record) × Begins (front ++ r ∷ []) → SoFar l front
