@@ -9,11 +9,11 @@ use Rattle.nodes.specs.Tree.Nodes.{none, more}
 use Rattle.nodes.specs.Tree.Pairs.{done, pair}
 use Rattle.nodes.specs.Reading.{Limits, bars, barss, barsp, barred}
 use Rattle.nodes.specs.Fields.{Rules, Basis, Item, is_merge, place, reference_at}
-use Rattle.nodes.specs.Collect.{Stop, Gathered, after, and_then, at, stopped, bar_stop, unknown_at, with_brought, as_field, as_merge, by_policy, gather, merge_value, elements, expand, collected}
+use Rattle.nodes.specs.Collect.{Stop, Gathered, after, and_then, at, stopped, bar_stop, unknown_at, as_field, as_merge, by_policy, gather, merge_value, elements, expand, collected}
 use Rattle.nodes.specs.Collect.Stand.{held, live}
 use Rattle.nodes.specs.Agreeing.{answer, CollectionsAgree}
 use Rattle.nodes.proofs.Fits.{neither}
-use Rattle.nodes.proofs.Stops.{then_same, then_both, after_yes}
+use Rattle.nodes.proofs.Stops.{then_same, after_yes}
 
 module _ (R : Rules) (l : Limits) (defers : Bool) where
   field_same : (b : Basis) (d u i : ℕ) (k v : Node) (f g : ℕ → ℕ → Result Gathered Stop) → bars l d (i + size k) v ≡ Nothing → ((n : ℕ) → f n (i + size k + size v) ≡ g n (i + size k + size v))
@@ -21,7 +21,7 @@ module _ (R : Rules) (l : Limits) (defers : Bool) where
   field_same b d u i k v f g h e = grind arith
 
   merge_same : (u i : ℕ) (r q : Result (List Item) Stop) (f g : ℕ → ℕ → Result Gathered Stop) → r ≡ q → ((n : ℕ) → f n i ≡ g n i) → as_merge u i r f ≡ as_merge u i q g
-  merge_same u i r q f g e h = then_both r q _ _ e (λ new. ap (λ x. and_then x (λ g. Ok (with_brought new g))) (h (u + length new)))
+  merge_same u i r q f g e h = grind (arith, then_same)
 
   mutual
     pub gather-same : (b : Basis) (d u i : ℕ) (ps : Pairs) → barsp l d i ps ≡ Nothing → gather R b (live l d) defers u i ps ≡ gather R b held defers u i ps

@@ -55,18 +55,14 @@ module _ (R : Rules) where
     within-by-policy m r r' e x y z = grind arith
 
     within_more : (m : ℕ) (r : Result B Stop) → n ≤ m → Within c w u n r → Within c w u m r
-    within_more m (Ok x) l h = record { fits = h.fits; few = λ y. let p = h.few y in omega arith }
-    within_more m (Err s) l h = λ y room. h y (omega arith)
+    within_more m r l h = grind arith
 
   within_none : (w : Bool) (u n : ℕ) → Within {B = List Item} length w u n (Ok [])
-  within_none w u n = record { fits = λ h. omega arith; few = λ y. omega arith }
+  within_none w u n = grind arith
 
   kept_within : (w : Bool) (u n j : ℕ) (g : Gathered) (r : Result (List Item) Refusal) → Keeps (length g.own) r → Few w u n (entries g)
       → Within length w u n (and_then (stop_with j r) (λ es. Ok (es ++ g.brought)))
-  kept_within w u n j g (Ok es) k h =
-      let e = length-append es g.brought in
-      record { fits = λ l. let p = h.fits l in omega arith; few = λ y. let p = h.few y in omega arith }
-  kept_within w u n j g (Err e) k h = λ y room. k
+  kept_within w u n j g r k h = grind (arith, length-append)
 
   closed_within : (w : Bool) (u n j : ℕ) (g : Gathered) → Few w u n (entries g) → Within length w u n (closed R j g)
   closed_within w u n j g h = kept_within w u n j g _ (keeps R.repeats R.merges R.text g.own) h
@@ -173,8 +169,7 @@ module _ (R : Rules) where
   collected_within b s defers missing (cut (stray k e r)) = λ y room e. cc
 
   roomy : (w : Bool) (n : ℕ) (r : Result (List Item) Stop) → Within length w 0 n r → w ≡ true → n ≤ R.places → Full r → ⊥
-  roomy w n (Ok es) h y room full = full
-  roomy w n (Err s) h y room full = h y (omega arith) full
+  roomy w n r h y room full = grind arith
 
 pub places_only_limit : PlacesOnlyLimit
 places_only_limit R p b s defers missing t =

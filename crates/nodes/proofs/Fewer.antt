@@ -1,6 +1,5 @@
 -- With fewer entry places collecting answers the same, or that they are full.
-use Rattle.std.proofs.Common.{◌≡◌, ℕ, ◌+◌, ◌≤◌, Bool, true, false, cond, ltb, ◌⊎◌, List, length, Option, Result, refl, inr, arith}
-use Rattle.std.proofs.lemmas.Bool.{ltb-true, lt-ltb}
+use Rattle.std.proofs.Common.{◌≡◌, ℕ, ◌+◌, ◌≤◌, Bool, true, false, cond, ◌⊎◌, List, length, Option, Result, refl, inr, arith}
 use Rattle.records.specs.declared.location.Location.{Location}
 use Rattle.records.specs.declared.options.MergeKeyPolicy.{MergeKeyPolicy}
 use Rattle.records.specs.declared.refusal.Refusal.{Refusal}
@@ -51,12 +50,10 @@ module _ {B : Type 0} where
 module _ (R : Rules) (p q : ℕ) (few : p ≤ q) where
   field_short : (b : Basis) (s : Stand) (defers : Bool) (u i : ℕ) (k v : Node) (f g : ℕ → ℕ → Result Gathered Stop) → ((n j : ℕ) → Short (f n j) (g n j))
       → Short (as_field (with_places p R) b s defers u i k v f) (as_field (with_places q R) b s defers u i k v g)
-  field_short b s defers u i k v f g h =
-      short_after (captured false s (i + size k) v) _ _ (short_room (ltb u p) (ltb u q) _ _ _ (λ e. let l = ltb-true u p e in lt-ltb u q (omega arith)) refl
-      (short_then (f (u + 1) (i + size k + size v)) (g (u + 1) (i + size k + size v)) _ _ (h (u + 1) (i + size k + size v)) (λ x. inr refl)))
+  field_short b s defers u i k v f g h = grind (arith, h (u + 1) (i + size k + size v))
 
   merge_short : (u i : ℕ) (r r' : Result (List Item) Stop) (f g : ℕ → ℕ → Result Gathered Stop) → Short r r' → ((n j : ℕ) → Short (f n j) (g n j)) → Short (as_merge u i r f) (as_merge u i r' g)
-  merge_short u i r r' f g x h = short_then r r' _ _ x (λ new. short_then (f (u + length new) i) (g (u + length new) i) _ _ (h (u + length new) i) (λ y. inr refl))
+  merge_short u i r r' f g x h = grind arith
 
   mutual
     gather-short : (b : Basis) (s : Stand) (defers : Bool) (u i : ℕ) (ps : Pairs) → Short (gather (with_places p R) b s defers u i ps) (gather (with_places q R) b s defers u i ps)
@@ -91,10 +88,4 @@ module _ (R : Rules) (p q : ℕ) (few : p ≤ q) where
     expand-short l u (cut c) = inr refl
 
   pub collected_short : (b : Basis) (s : Stand) (defers : Bool) (missing : Refusal) (t : Node) → Short (collected (with_places p R) b s defers missing t) (collected (with_places q R) b s defers missing t)
-  collected_short b s defers missing (scalar k x) = inr refl
-  collected_short b s true missing (alias k a) = inr refl
-  collected_short b s false missing (alias k a) = inr refl
-  collected_short b s defers missing (seq k h ns) = inr refl
-  collected_short b s defers missing (dict k h ps) = short_after _ _ _ (short_then _ _ _ _ (gather-short b (inner s) defers 0 1 ps) (λ g. inr refl))
-  collected_short b s defers missing (cut ended) = inr refl
-  collected_short b s defers missing (cut (stray k e r)) = inr refl
+  collected_short b s defers missing t = grind (arith, gather-short)

@@ -26,8 +26,7 @@ abbrev Either : ℕ → (ℕ → Location → Type 0) → (ℕ → Location → 
 Either s A B n l = A n l ⊎ ((m : ℕ) × (n ≡ s + m) × B m l)
 
 finds_same : (A B : ℕ → Location → Type 0) (o : Option Location) → ((n : ℕ) (l : Location) → A n l → B n l) → ((n : ℕ) (l : Location) → B n l → A n l) → Finds A o → Finds B o
-finds_same A B Nothing f g h = λ n l b. h n l (g n l b)
-finds_same A B (Some l) f g (n, a, least) = (n, f n l a, λ m o b. least m o (g m o b))
+finds_same A B o f g h = grind arith
 
 finds_deeper : (A B : ℕ → Location → Type 0) (o : Option Location) → ((n : ℕ) (l : Location) → A n l → B (suc n) l) → ((n : ℕ) (l : Location) → B n l → (m : ℕ) × (n ≡ suc m) × A m l) → Finds A o → Finds B o
 finds_deeper A B Nothing f g h = λ n l b. let (m, e, a) = g n l b in h m l a

@@ -27,14 +27,10 @@ module _ (text : List ℕ) where
   lasts_append (e ∷ a) b = ap (λ x. cond (has_key text e (a ++ b)) x (e ∷ x)) (lasts_append a b) ∙ cond_before (has_key text e (a ++ b)) _ _ (lasts text b)
 
 pub first_wins : FirstWinsLaw
-first_wins text a b e =
-    firsts_append text [] a (e ∷ b)
-    ∙ ap (λ x. firsts text [] a ++ x) (cond_before (has_key text e a) [] (e ∷ []) (firsts text (a ++ e ∷ []) b))
+first_wins text a b e = grind (arith, firsts_append text [] a (e ∷ b))
 
 pub last_wins : LastWinsLaw
-last_wins text a b e =
-    lasts_append text a (e ∷ b)
-    ∙ ap (λ x. lasts_before text (e ∷ b) a ++ x) (cond_before (has_key text e b) [] (e ∷ []) (lasts text b))
+last_wins text a b e = grind (arith, lasts_append text a (e ∷ b))
 
 module _ (text : List ℕ) where
   -- what is kept holds no key that was seen
@@ -92,8 +88,7 @@ pub keys_kept_once : KeysKeptOnce
 keys_kept_once text es = (distinct_firsts text [] es, distinct_lasts text es, (λ e. firsts_keys text e [] es), (λ e. lasts_keys text e es))
 
 not_refused : (es dropped kept : List Item) → refuse_repeat es (head dropped) ≡ Ok kept → (kept ≡ es) × (dropped ≡ [])
-not_refused es [] kept h = (cc, refl)
-not_refused es (e ∷ dropped) kept h = cc
+not_refused es dropped kept h = grind arith
 
 pub error_at_first_repeat : ErrorAtFirstRepeat
 error_at_first_repeat m text es = (

@@ -1,5 +1,5 @@
 -- What a mapping is collected to: its own fields, which are not marked as merged, and merged ones, which are.
-use Rattle.std.proofs.Common.{◌≡◌, ℕ, ◌+◌, Bool, true, false, ltb, arith, List, [], ◌∷◌, ◌++◌, reverse, length, Ok, Err, Option, Result, sym, refl, ap, ◌∙◌, subst}
+use Rattle.std.proofs.Common.{◌≡◌, ℕ, ◌+◌, Bool, true, false, ltb, arith, List, [], ◌∷◌, ◌++◌, length, Ok, Err, Option, Result, sym, refl, ap, ◌∙◌, subst}
 use Rattle.std.specs.List.{All, Contains}
 use Rattle.std.specs.Result.{IfOk}
 use Rattle.std.proofs.lemmas.List.Elements.{All-nil, All-cons, All-head, All-tail, All-append, All-contains, Contains-append_right}
@@ -8,7 +8,6 @@ use Rattle.std.proofs.lemmas.Bool.{cond_both}
 use Rattle.records.specs.declared.location.Location.{Location}
 use Rattle.records.specs.declared.options.MergeKeyPolicy.{MergeKeyPolicy}
 use Rattle.records.specs.declared.options.DuplicateKeyPolicy.{DuplicateKeyPolicy}
-use Rattle.records.specs.declared.options.DuplicateKeyPolicy.TheVariants.{Error, FirstWins, LastWins}
 use Rattle.records.specs.declared.refusal.Refusal.{Refusal}
 use Rattle.events.specs.Meaning.{known}
 use Rattle.nodes.specs.Tree.{Node, Nodes, Pairs, size, sizep}
@@ -18,7 +17,7 @@ use Rattle.nodes.specs.Tree.Nodes.{none, more}
 use Rattle.nodes.specs.Tree.Pairs.{done, pair}
 use Rattle.nodes.specs.Fields.{Rules, Basis, Item, is_merged, is_merge, null_words, reference_at, has_key}
 use Rattle.nodes.specs.Fields.Basis.{direct, expansion}
-use Rattle.nodes.specs.Repeats.{firsts, not_firsts, lasts, not_lasts, head, refuse_repeat, refuse_merge, dropping, kept_by, Distinct}
+use Rattle.nodes.specs.Repeats.{firsts, lasts, refuse_repeat, refuse_merge, dropping, kept_by, Distinct}
 use Rattle.nodes.specs.Collect.{Stop, Stand, Gathered, inner, after, and_then, stop_with, captured, slot_for, unknown_at, closed, as_field, as_merge, gather, merge_value, elements, expand, collected}
 use Rattle.nodes.specs.Collect.Stand.{held}
 use Rattle.nodes.specs.Agreeing.{KeysAreUnique}
@@ -49,9 +48,7 @@ module _ (P : Item → Type 0) where
   all_dropping m text es dropped h = grind (arith, all_merge)
 
   pub all_kept : (p : DuplicateKeyPolicy) (m : MergeKeyPolicy) (text : List ℕ) (es : List Item) → All P es → IfOk (kept_by p m text es) (λ l. All P l)
-  all_kept Error m text es h = all_repeat es (head (not_firsts text [] es)) h
-  all_kept FirstWins m text es h = all_dropping m text (firsts text [] es) (not_firsts text [] es) (all_firsts text [] es h)
-  all_kept LastWins m text es h = all_dropping m text (lasts text es) (reverse (not_lasts text es)) (all_lasts text es h)
+  all_kept p m text es h = grind (arith, all_firsts text [] es, all_lasts text es, all_dropping)
 
   pub all_at : (es : List Item) → All P es → (a b : List Item) (e : Item) → es ≡ a ++ e ∷ b → P e
   all_at es h a b e p = All-contains P es e h (subst (λ l. Contains l e) (sym p) (Contains-append_right a (e ∷ b) e (0, omega arith, refl)))

@@ -71,21 +71,21 @@ abbrev pub read : List Record → Node × List Record
 read es = node (suc (2 * length es)) es
 
 bounded : (n : ℕ) (t : Node) (r : List Record) → whole t ≡ true → 2 * length (flat t r) < n → 2 * length r + 1 < n
-bounded n t r w h = let a = size_flat t r w in let b = size_some t w in omega arith
+bounded n t r w h = grind (arith, size_flat t r, size_some t)
 
 module _ (t : Node) (r : List Record) (f : List Record → Nodes × List Record) (c : cut_at seq_end t ≡ false) where
   elements_whole : whole t ≡ true → elements (t, r) f ≡ (more t (f r).0, (f r).1)
-  elements_whole w = closed_no seq_end _ _ t c ∙ cond-true (whole t) _ _ w
+  elements_whole w = grind arith
 
   elements_broken : whole t ≡ false → elements (t, r) f ≡ (more t no_nodes, [])
-  elements_broken w = closed_no seq_end _ _ t c ∙ cond-false (whole t) _ _ w
+  elements_broken w = grind arith
 
 module _ (t : Node) (r : List Record) (g : List Record → Node × List Record) (f : List Record → Pairs × List Record) (c : cut_at map_end t ≡ false) where
   entries_whole : whole t ≡ true → entries (t, r) g f ≡ values t (g r) f
-  entries_whole w = closed_no map_end _ _ t c ∙ cond-true (whole t) _ _ w
+  entries_whole w = grind arith
 
   entries_broken : whole t ≡ false → entries (t, r) g f ≡ (pair t (cut ended) no_pairs, [])
-  entries_broken w = closed_no map_end _ _ t c ∙ cond-false (whole t) _ _ w
+  entries_broken w = grind arith
 
 -- a sound tree is read from what it is written as
 mutual

@@ -1,5 +1,5 @@
 -- Sound trees: their children behind a node, and that whole trees are sound.
-use Rattle.std.proofs.Common.{◌≡◌, true, false, refl, arith}
+use Rattle.std.proofs.Common.{◌≡◌, true, false, arith}
 use Rattle.std.proofs.lemmas.Bool.{and_parts}
 use Rattle.nodes.specs.Tree.{End, Node, Nodes, Pairs, whole, wholes, wholep, cut_at, no_nodes, no_pairs, Sound, Sounds, Soundp}
 use Rattle.nodes.specs.Tree.Node.{scalar, alias, seq, dict, cut}
@@ -46,11 +46,7 @@ soundp_cut_key k c s w = grind arith
 
 -- a whole node is no end out of place
 pub whole_uncut : (e : End) (t : Node) → whole t ≡ true → cut_at e t ≡ false
-whole_uncut e (scalar k x) w = refl
-whole_uncut e (alias k a) w = refl
-whole_uncut e (seq k h ns) w = refl
-whole_uncut e (dict k h ps) w = refl
-whole_uncut e (cut c) w = cc
+whole_uncut e t w = grind arith
 
 mutual
   pub whole_sound : (t : Node) → whole t ≡ true → Sound t

@@ -1,5 +1,5 @@
 -- How answers go on: laws of `after`, `and_then` and `at`, and what holds of whatever is answered.
-use Rattle.std.proofs.Common.{◌≡◌, ℕ, Bool, true, false, cond, None as Nothing, Ok, Err, Option, Result, refl, ap, ◌∙◌, arith}
+use Rattle.std.proofs.Common.{◌≡◌, ℕ, Bool, true, false, cond, None as Nothing, Ok, Option, Result, arith}
 use Rattle.std.specs.Result.{IfOk}
 use Rattle.records.specs.declared.options.MergeKeyPolicy.{MergeKeyPolicy}
 use Rattle.records.specs.declared.options.MergeKeyPolicy.TheVariants.{Merge}
@@ -11,16 +11,15 @@ module _ {A B : Type 0} where
   then_same r f g h = grind arith
 
   pub then_both : (r q : Result A Stop) (f g : A → Result B Stop) → r ≡ q → ((x : A) → f x ≡ g x) → and_then r f ≡ and_then q g
-  then_both r q f g e h = then_same r f g h ∙ ap (λ z. and_then z g) e
+  then_both r q f g e h = grind arith
 
   pub then_made : (r : Result A Stop) (f : A → Result B Stop) (y : B) → and_then r f ≡ Ok y → (x : A) × (r ≡ Ok x) × (f x ≡ Ok y)
-  then_made (Ok x) f y e = (x, refl, e)
-  then_made (Err s) f y e = cc
+  then_made r f y e = grind arith
 
 module _ {B : Type 0} where
   -- a question that is answered with yes
   pub after_yes : (o : Option Stop) (r : Result B Stop) → o ≡ Nothing → after o r ≡ r
-  after_yes o r e = ap (λ x. after x r) e
+  after_yes o r e = grind arith
 
   pub after_made : (o : Option Stop) (r : Result B Stop) (y : B) → after o r ≡ Ok y → (o ≡ Nothing) × (r ≡ Ok y)
   after_made o r y e = grind arith

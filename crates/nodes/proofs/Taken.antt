@@ -1,5 +1,5 @@
 -- Sources once some events are taken: one part after another, how they close, and what a deferring source answers.
-use Rattle.std.proofs.Common.{◌≡◌, ℕ, ◌+◌, true, List, [], ◌∷◌, ◌++◌, take, drop, Some, None, Ok, Err, Option, Result, sym, refl, ap, ◌∙◌, ap₂, take-append-drop, drop-drop, take-add}
+use Rattle.std.proofs.Common.{◌≡◌, ℕ, ◌+◌, true, List, [], ◌∷◌, ◌++◌, take, drop, Some, None, Ok, Err, Option, Result, sym, ap, ◌∙◌, take-append-drop, drop-drop, take-add, arith}
 use Rattle.std.proofs.lemmas.List.Sums.{fold-append}
 use Rattle.records.specs.declared.location.Location.{Location}
 use Rattle.records.specs.declared.record.Record.{Record}
@@ -34,42 +34,32 @@ last_flat m t rest w e = ap (λ l. last_in m.last (take (size t) l)) e ∙ ap (l
 -- a deferring source answers its front as it stands
 module _ (m : Meaning) (h : m.deferring ≡ true) where
   pub peeked_front : (r : Record) (rs : List Record) → m.events ≡ r ∷ rs → peeked m ≡ Ok (Some r)
-  peeked_front r rs e = ap₂ (λ d es. front d m.anchors m.close es) h e
+  peeked_front r rs e = grind arith
 
   pub peeked_end : m.events ≡ [] → peeked m ≡ closing m.close
-  peeked_end e = ap (front m.deferring m.anchors m.close) e
+  peeked_end e = grind arith
 
   some_from : (es : List Record) (c : Close) (r : Record) → front true m.anchors c es ≡ Ok (Some r) → es ≡ r ∷ tail es
-  some_from [] Plain r q = cc
-  some_from [] (Fault f) r q = cc
-  some_from (x ∷ es) c r q = cc
+  some_from es c r q = grind arith
 
   none_from : (es : List Record) (c : Close) → front true m.anchors c es ≡ Ok None → (es ≡ []) × (c ≡ Plain)
-  none_from [] Plain q = (refl, refl)
-  none_from [] (Fault f) q = cc
-  none_from (x ∷ es) c q = cc
+  none_from es c q = grind arith
 
   fault_from : (es : List Record) (c : Close) (f : Refusal) → front true m.anchors c es ≡ Err f → (es ≡ []) × (c ≡ Fault f)
-  fault_from [] Plain f q = cc
-  fault_from [] (Fault g) f q = (refl, cc)
-  fault_from (x ∷ es) c f q = cc
+  fault_from es c f q = grind arith
 
   as_deferring : {x : Result (Option Record) Refusal} → peeked m ≡ x → front true m.anchors m.close m.events ≡ x
   as_deferring q = ap (λ d. front d m.anchors m.close m.events) (sym h) ∙ q
 
   -- so each answer says what its events are, and the last two how it closes
   pub peeked_some : (r : Record) → peeked m ≡ Ok (Some r) → m.events ≡ r ∷ tail m.events
-  peeked_some r q = some_from m.events m.close r (as_deferring q)
+  peeked_some r q = grind arith
 
   pub peeked_none : peeked m ≡ Ok None → (m.events ≡ []) × (closing_of m ≡ refusal Eof m.last)
-  peeked_none q =
-      let (a, b) = none_from m.events m.close (as_deferring q) in
-      (a, ap₂ (λ c es. ended_by c (last_in m.last es)) b a)
+  peeked_none q = grind arith
 
   pub peeked_fault : (f : Refusal) → peeked m ≡ Err f → (m.events ≡ []) × (closing_of m ≡ f)
-  peeked_fault f q =
-      let (a, b) = fault_from m.events m.close f (as_deferring q) in
-      (a, ap₂ (λ c es. ended_by c (last_in m.last es)) b a)
+  peeked_fault f q = grind arith
 
 -- what peek and next leave of a source that answers its front as it stands
 module _ (m : Meaning) (r : Record) (rs : List Record) (e : m.events ≡ r ∷ rs) where

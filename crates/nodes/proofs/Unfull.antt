@@ -1,10 +1,9 @@
 -- What bars a whole node, and what refuses its keys, is no want of an entry place.
-use Rattle.std.proofs.Common.{◌≡◌, ℕ, suc, ◌+◌, ◌-◌, ◌≤◌, Bool, true, List, [], ◌∷◌, ◌++◌, reverse, length, Some, None as Nothing, Ok, Err, Option, Result, arith}
+use Rattle.std.proofs.Common.{◌≡◌, ℕ, suc, ◌+◌, ◌-◌, ◌≤◌, Bool, true, List, [], ◌∷◌, ◌++◌, length, Some, None as Nothing, Ok, Err, Option, Result, arith}
 use Rattle.std.proofs.lemmas.Bool.{cond_both}
 use Rattle.records.specs.declared.location.Location.{Location}
 use Rattle.records.specs.declared.options.MergeKeyPolicy.{MergeKeyPolicy}
 use Rattle.records.specs.declared.options.DuplicateKeyPolicy.{DuplicateKeyPolicy}
-use Rattle.records.specs.declared.options.DuplicateKeyPolicy.TheVariants.{Error, FirstWins, LastWins}
 use Rattle.records.specs.declared.record.Event.{Event}
 use Rattle.records.specs.declared.refusal.Reason.{Reason}
 use Rattle.records.specs.declared.refusal.Reason.TheVariants.{EntriesFull}
@@ -15,7 +14,7 @@ use Rattle.nodes.specs.Tree.Nodes.{none, more}
 use Rattle.nodes.specs.Tree.Pairs.{done, pair}
 use Rattle.nodes.specs.Reading.{Limits, Bar, slot_at, place_at, start_at, bars, barss, barsp}
 use Rattle.nodes.specs.Fields.{Item, has_key}
-use Rattle.nodes.specs.Repeats.{firsts, not_firsts, lasts, not_lasts, head, refuse_repeat, refuse_merge, dropping, kept_by}
+use Rattle.nodes.specs.Repeats.{firsts, lasts, refuse_repeat, refuse_merge, dropping, kept_by}
 use Rattle.nodes.specs.Collect.{Stop, Stand, bar_stop, captured, slot_for, place_for, start_for, unknown_at}
 
 abbrev pub Other : Reason → Type 0
@@ -97,6 +96,4 @@ keeps_dropping : (n : ℕ) (m : MergeKeyPolicy) (text : List ℕ) (es dropped : 
 keeps_dropping n m text es dropped h = grind arith
 
 pub keeps : (p : DuplicateKeyPolicy) (m : MergeKeyPolicy) (text : List ℕ) (es : List Item) → Keeps (length es) (kept_by p m text es)
-keeps Error m text es = keeps_repeat es (head (not_firsts text [] es))
-keeps FirstWins m text es = keeps_dropping (length es) m text (firsts text [] es) (not_firsts text [] es) (firsts_few text [] es)
-keeps LastWins m text es = keeps_dropping (length es) m text (lasts text es) (reverse (not_lasts text es)) (lasts_few text es)
+keeps p m text es = grind (arith, firsts_few text [] es, lasts_few text es)
