@@ -18,21 +18,12 @@ abbrev pub Short : {B : Type 0} → Result B Stop → Result B Stop → Type 0
 Short r q = Full r ⊎ (r ≡ q)
 
 module _ {A B : Type 0} where
-  full_then : (r : Result A Stop) (f : A → Result B Stop) → Full r → Full (and_then r f)
-  full_then r f h = grind arith
-
-  same_then : (r : Result A Stop) (f g : A → Result B Stop) → ((x : A) → Short (f x) (g x)) → Short (and_then r f) (and_then r g)
-  same_then r f g h = grind arith
-
   short_then : (r q : Result A Stop) (f g : A → Result B Stop) → Short r q → ((x : A) → Short (f x) (g x)) → Short (and_then r f) (and_then q g)
   short_then r q f g x h = grind arith
 
 module _ {B : Type 0} where
   short_after : (o : Option Stop) (r q : Result B Stop) → Short r q → Short (after o r) (after o q)
   short_after o r q h = grind arith
-
-  full_at : (n : ℕ) (r : Result B Stop) → Full r → Full (at n r)
-  full_at n r h = grind arith
 
   short_at : (n : ℕ) (r q : Result B Stop) → Short r q → Short (at n r) (at n q)
   short_at n r q h = grind arith
@@ -42,10 +33,6 @@ module _ {B : Type 0} where
 
   short_by_policy : (m : MergeKeyPolicy) (r r' q q' e : Result B Stop) → Short r r' → Short q q' → Short (by_policy m r q e) (by_policy m r' q' e)
   short_by_policy m r r' q q' e x y = grind arith
-
-  -- where a place is free among fewer, one is free
-  short_room : (x y : Bool) (r q e : Result B Stop) → (x ≡ true → y ≡ true) → Full e → Short r q → Short (cond x r e) (cond y q e)
-  short_room x y r q e f full h = grind arith
 
 module _ (R : Rules) (p q : ℕ) (few : p ≤ q) where
   field_short : (b : Basis) (s : Stand) (defers : Bool) (u i : ℕ) (k v : Node) (f g : ℕ → ℕ → Result Gathered Stop) → ((n j : ℕ) → Short (f n j) (g n j))

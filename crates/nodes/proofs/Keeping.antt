@@ -1,30 +1,23 @@
 -- What the policies for repeated keys keep: over parts of a list, one field of each key, and no key is lost.
-use Rattle.std.proofs.Common.{◌≡◌, ℕ, Bool, true, false, cond, ◌||◌, List, [], ◌∷◌, ◌++◌, Ok, sym, refl, ap, ◌∙◌, subst, ap₂, append_assoc, append-nil, arith}
+use Rattle.std.proofs.Common.{◌≡◌, ℕ, true, false, ◌||◌, List, [], ◌∷◌, ◌++◌, Ok, sym, refl, ap, ◌∙◌, subst, ap₂, append_assoc, append-nil, arith}
 use Rattle.std.proofs.lemmas.Bool.{cond-true, cond-false, cond_both}
 use Rattle.nodes.specs.Fields.{Item, same_key, has_key}
 use Rattle.nodes.specs.Repeats.{firsts, not_firsts, lasts, lasts_before, head, refuse_repeat, Distinct, FirstWinsLaw, LastWinsLaw, KeysKeptOnce, ErrorAtFirstRepeat}
 use Rattle.std.proofs.lemmas.List.Folds.{list_any-append}
 use Rattle.nodes.proofs.KeyLaws.{same_key_refl, same_key_sym, has_key_same}
 
-cond_before : {A : Type 0} (q : Bool) (x y z : List A) → cond q (x ++ z) (y ++ z) ≡ cond q x y ++ z
-cond_before q x y z = grind arith
-
 module _ (text : List ℕ) where
   pub firsts_append : (seen a b : List Item) → firsts text seen (a ++ b) ≡ firsts text seen a ++ firsts text (seen ++ a) b
   firsts_append seen [] b = ap (λ s. firsts text s b) (sym (append-nil seen))
-  firsts_append seen (e ∷ a) b =
-      let h = firsts_append (seen ++ e ∷ []) a b ∙ ap (λ s. firsts text (seen ++ e ∷ []) a ++ firsts text s b) (append_assoc seen (e ∷ []) a) in
-      ap (λ x. cond (has_key text e seen) x (e ∷ x)) h ∙ cond_before (has_key text e seen) _ _ (firsts text (seen ++ e ∷ a) b)
+  firsts_append seen (e ∷ a) b = grind (arith, firsts_append (seen ++ e ∷ []) a b, append_assoc seen (e ∷ []) a)
 
   pub not_firsts_append : (seen a b : List Item) → not_firsts text seen (a ++ b) ≡ not_firsts text seen a ++ not_firsts text (seen ++ a) b
   not_firsts_append seen [] b = ap (λ s. not_firsts text s b) (sym (append-nil seen))
-  not_firsts_append seen (e ∷ a) b =
-      let h = not_firsts_append (seen ++ e ∷ []) a b ∙ ap (λ s. not_firsts text (seen ++ e ∷ []) a ++ not_firsts text s b) (append_assoc seen (e ∷ []) a) in
-      ap (λ x. cond (has_key text e seen) (e ∷ x) x) h ∙ cond_before (has_key text e seen) _ _ (not_firsts text (seen ++ e ∷ a) b)
+  not_firsts_append seen (e ∷ a) b = grind (arith, not_firsts_append (seen ++ e ∷ []) a b, append_assoc seen (e ∷ []) a)
 
   pub lasts_append : (a b : List Item) → lasts text (a ++ b) ≡ lasts_before text b a ++ lasts text b
   lasts_append [] b = refl
-  lasts_append (e ∷ a) b = ap (λ x. cond (has_key text e (a ++ b)) x (e ∷ x)) (lasts_append a b) ∙ cond_before (has_key text e (a ++ b)) _ _ (lasts text b)
+  lasts_append (e ∷ a) b = grind (arith, lasts_append a b)
 
 pub first_wins : FirstWinsLaw
 first_wins text a b e = grind (arith, firsts_append text [] a (e ∷ b))

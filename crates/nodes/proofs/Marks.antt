@@ -17,7 +17,7 @@ use Rattle.nodes.specs.Tree.Nodes.{none, more}
 use Rattle.nodes.specs.Tree.Pairs.{done, pair}
 use Rattle.nodes.specs.Fields.{Rules, Basis, Item, is_merged, is_merge, null_words, reference_at, has_key}
 use Rattle.nodes.specs.Fields.Basis.{direct, expansion}
-use Rattle.nodes.specs.Repeats.{firsts, lasts, refuse_repeat, refuse_merge, dropping, kept_by, Distinct}
+use Rattle.nodes.specs.Repeats.{firsts, lasts, refuse_merge, dropping, kept_by, Distinct}
 use Rattle.nodes.specs.Collect.{Stop, Stand, Gathered, inner, after, and_then, stop_with, captured, slot_for, unknown_at, closed, as_field, as_merge, gather, merge_value, elements, expand, collected}
 use Rattle.nodes.specs.Collect.Stand.{held}
 use Rattle.nodes.specs.Agreeing.{KeysAreUnique}
@@ -37,9 +37,6 @@ module _ (P : Item → Type 0) where
   all_lasts text (e ∷ es) h =
       let r = all_lasts text es (All-tail P e es h) in
       cond_both (has_key text e es) _ _ (λ l. All P l) (λ p. r) (λ p. All-cons P e _ (All-head P e es h) r)
-
-  all_repeat : (es : List Item) (o : Option Item) → All P es → IfOk (refuse_repeat es o) (λ l. All P l)
-  all_repeat es o h = grind arith
 
   all_merge : (es : List Item) (o : Option Location) → All P es → IfOk (refuse_merge es o) (λ l. All P l)
   all_merge es o h = grind arith

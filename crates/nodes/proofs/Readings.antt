@@ -39,9 +39,6 @@ closed seq_end yes' no' (cut (stray k map_end r)) = no'
 closed map_end yes' no' (cut (stray k seq_end r)) = no'
 closed map_end yes' no' (cut (stray k map_end r)) = yes' k r
 
-closed_no : {A : Type 0} (e : End) (y : Mark → List Record → A) (n : A) (t : Node) → cut_at e t ≡ false → closed e y n t ≡ n
-closed_no e y n t h = grind arith
-
 -- children from a node on, which was read with what is left: none behind it if it breaks off
 abbrev elements : Node × List Record → (List Record → Nodes × List Record) → Nodes × List Record
 elements x f = closed seq_end (λ k r. (none k, r)) (cond (whole x.0) (more x.0 (f x.1).0, (f x.1).1) (more x.0 no_nodes, [])) x.0

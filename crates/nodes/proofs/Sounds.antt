@@ -1,6 +1,5 @@
 -- Sound trees: their children behind a node, and that whole trees are sound.
 use Rattle.std.proofs.Common.{◌≡◌, true, false, arith}
-use Rattle.std.proofs.lemmas.Bool.{and_parts}
 use Rattle.nodes.specs.Tree.{End, Node, Nodes, Pairs, whole, wholes, wholep, cut_at, no_nodes, no_pairs, Sound, Sounds, Soundp}
 use Rattle.nodes.specs.Tree.Node.{scalar, alias, seq, dict, cut}
 use Rattle.nodes.specs.Tree.End.{seq_end, map_end}
@@ -58,9 +57,7 @@ mutual
 
   pub whole_sounds : (ns : Nodes) → wholes ns ≡ true → Sounds ns
   whole_sounds (none k) w = tt
-  whole_sounds (more n ns) w =
-      let (a, b) = and_parts (whole n) (wholes ns) w in
-      sounds_from n ns (whole_uncut seq_end n a) (whole_sound n a) a (whole_sounds ns b)
+  whole_sounds (more n ns) w = grind (arith, whole_uncut seq_end n, whole_sound n, whole_sounds ns)
 
   pub whole_soundp : (ps : Pairs) → wholep ps ≡ true → Soundp ps
   whole_soundp (done k) w = tt

@@ -1,11 +1,11 @@
 -- Sources once some events are taken: one part after another, how they close, and what a deferring source answers.
-use Rattle.std.proofs.Common.{◌≡◌, ℕ, ◌+◌, true, List, [], ◌∷◌, ◌++◌, take, drop, Some, None, Ok, Err, Option, Result, sym, ap, ◌∙◌, take-append-drop, drop-drop, take-add, arith}
+use Rattle.std.proofs.Common.{◌≡◌, ℕ, ◌+◌, true, List, [], ◌∷◌, ◌++◌, take, drop, Some, None, Ok, Err, sym, ap, ◌∙◌, take-append-drop, drop-drop, take-add, arith}
 use Rattle.std.proofs.lemmas.List.Sums.{fold-append}
 use Rattle.records.specs.declared.location.Location.{Location}
 use Rattle.records.specs.declared.record.Record.{Record}
 use Rattle.records.specs.declared.refusal.Reason.TheVariants.{Eof}
 use Rattle.records.specs.declared.refusal.Refusal.{Refusal}
-use Rattle.events.specs.Meaning.{Meaning, Close, Plain, Fault, front, tail, closing, peeked, settled, taken}
+use Rattle.events.specs.Meaning.{Meaning, tail, closing, peeked, settled, taken}
 use Rattle.nodes.specs.Tree.{Node, flat, size, whole}
 use Rattle.nodes.specs.Reading.{refusal, last_in, ended_by, closing_of}
 use Rattle.nodes.specs.Taking.{past}
@@ -38,18 +38,6 @@ module _ (m : Meaning) (h : m.deferring ≡ true) where
 
   pub peeked_end : m.events ≡ [] → peeked m ≡ closing m.close
   peeked_end e = grind arith
-
-  some_from : (es : List Record) (c : Close) (r : Record) → front true m.anchors c es ≡ Ok (Some r) → es ≡ r ∷ tail es
-  some_from es c r q = grind arith
-
-  none_from : (es : List Record) (c : Close) → front true m.anchors c es ≡ Ok None → (es ≡ []) × (c ≡ Plain)
-  none_from es c q = grind arith
-
-  fault_from : (es : List Record) (c : Close) (f : Refusal) → front true m.anchors c es ≡ Err f → (es ≡ []) × (c ≡ Fault f)
-  fault_from es c f q = grind arith
-
-  as_deferring : {x : Result (Option Record) Refusal} → peeked m ≡ x → front true m.anchors m.close m.events ≡ x
-  as_deferring q = ap (λ d. front d m.anchors m.close m.events) (sym h) ∙ q
 
   -- so each answer says what its events are, and the last two how it closes
   pub peeked_some : (r : Record) → peeked m ≡ Ok (Some r) → m.events ≡ r ∷ tail m.events

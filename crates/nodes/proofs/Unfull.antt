@@ -1,7 +1,6 @@
 -- What bars a whole node, and what refuses its keys, is no want of an entry place.
 use Rattle.std.proofs.Common.{◌≡◌, ℕ, suc, ◌+◌, ◌-◌, ◌≤◌, Bool, true, List, [], ◌∷◌, ◌++◌, length, Some, None as Nothing, Ok, Err, Option, Result, arith}
 use Rattle.std.proofs.lemmas.Bool.{cond_both}
-use Rattle.records.specs.declared.location.Location.{Location}
 use Rattle.records.specs.declared.options.MergeKeyPolicy.{MergeKeyPolicy}
 use Rattle.records.specs.declared.options.DuplicateKeyPolicy.{DuplicateKeyPolicy}
 use Rattle.records.specs.declared.record.Event.{Event}
@@ -12,10 +11,10 @@ use Rattle.nodes.specs.Tree.{Mark, Node, Nodes, Pairs, size, whole, wholes, whol
 use Rattle.nodes.specs.Tree.Node.{scalar, alias, seq, dict, cut}
 use Rattle.nodes.specs.Tree.Nodes.{none, more}
 use Rattle.nodes.specs.Tree.Pairs.{done, pair}
-use Rattle.nodes.specs.Reading.{Limits, Bar, slot_at, place_at, start_at, bars, barss, barsp}
+use Rattle.nodes.specs.Reading.{Limits, Bar, bars, barss, barsp}
 use Rattle.nodes.specs.Fields.{Item, has_key}
-use Rattle.nodes.specs.Repeats.{firsts, lasts, refuse_repeat, refuse_merge, dropping, kept_by}
-use Rattle.nodes.specs.Collect.{Stop, Stand, bar_stop, captured, slot_for, place_for, start_for, unknown_at}
+use Rattle.nodes.specs.Repeats.{firsts, lasts, kept_by}
+use Rattle.nodes.specs.Collect.{Stop, Stand, captured, slot_for, place_for, start_for, unknown_at}
 
 abbrev pub Other : Reason → Type 0
 Other why = why ≡ EntriesFull → ⊥
@@ -29,15 +28,6 @@ Unfull Nothing = Unit {0}
 Unfull (Some s) = Other s.why.reason
 
 module _ (l : Limits) where
-  slot_asked : (i : ℕ) (k : Mark) → Passable (slot_at l i k)
-  slot_asked i k = grind arith
-
-  place_asked : (i : ℕ) (k : Mark) (e : Event) → Passable (place_at l i k e)
-  place_asked i k e = grind arith
-
-  start_asked : (d i : ℕ) (k : Mark) (e : Event) → Passable (start_at l d i k e)
-  start_asked d i k e = grind arith
-
   mutual
     bars-asked : (d i : ℕ) (t : Node) → whole t ≡ true → Passable (bars l d i t)
     bars-asked d i (scalar k x) w = grind arith
@@ -53,10 +43,6 @@ module _ (l : Limits) where
     barsp-asked : (d i : ℕ) (ps : Pairs) → wholep ps ≡ true → Passable (barsp l d i ps)
     barsp-asked d i (done k) w = grind arith
     barsp-asked d i (pair k v ps) w = grind (arith, bars-asked d i k, bars-asked d (i + size k) v, barsp-asked d (i + size k + size v) ps)
-
-unfull_bar : (looked : Bool) (i : ℕ) (o : Option Bar) → Passable o → Unfull (bar_stop looked i o)
-unfull_bar looked i Nothing h = tt
-unfull_bar looked i (Some b) h = h
 
 pub unfull_captured : (looked : Bool) (s : Stand) (i : ℕ) (t : Node) → whole t ≡ true → Unfull (captured looked s i t)
 unfull_captured looked s i t w = grind (arith, bars-asked)
@@ -85,15 +71,6 @@ firsts_few text seen (e ∷ es) = let h = firsts_few text (seen ++ e ∷ []) es 
 lasts_few : (text : List ℕ) (es : List Item) → length (lasts text es) ≤ length es
 lasts_few text [] = omega arith
 lasts_few text (e ∷ es) = let h = lasts_few text es in cond_both (has_key text e es) _ _ (λ x. length x ≤ suc (length es)) (λ p. omega arith) (λ p. omega arith)
-
-keeps_repeat : (es : List Item) (o : Option Item) → Keeps (length es) (refuse_repeat es o)
-keeps_repeat es o = grind arith
-
-keeps_merge : (n : ℕ) (es : List Item) (o : Option Location) → length es ≤ n → Keeps n (refuse_merge es o)
-keeps_merge n es o h = grind arith
-
-keeps_dropping : (n : ℕ) (m : MergeKeyPolicy) (text : List ℕ) (es dropped : List Item) → length es ≤ n → Keeps n (dropping m text es dropped)
-keeps_dropping n m text es dropped h = grind arith
 
 pub keeps : (p : DuplicateKeyPolicy) (m : MergeKeyPolicy) (text : List ℕ) (es : List Item) → Keeps (length es) (kept_by p m text es)
 keeps p m text es = grind (arith, firsts_few text [] es, lasts_few text es)
