@@ -1,6 +1,6 @@
 -- The steps of the search for merge keys: an answer that is right for what is left is right for what stands before.
 use Rattle.std.proofs.Common.{◌≡◌, ℕ, true, false, cond, Bool, List, [], ◌∷◌, length, Bor, Some, None as Nothing, Ok, Err, Option, Result, sym, refl, ap, ◌∙◌, subst, arith}
-use Rattle.std.proofs.ByRecursion.{All-take, All-drop}
+use Rattle.std.proofs.lemmas.List.Elements.{All-take, All-drop, All-from_recursion, recursion_from_All}
 use Rattle.std.proofs.lemmas.Bool.{true≢false, false≢true, and_parts, cond-true, cond-false}
 use Rattle.records.specs.declared.location.Location.{Location}
 use Rattle.records.specs.declared.tags.SfTag.{SfTag}
@@ -22,10 +22,10 @@ use Rattle.searching.specs.Slots.{merge_seen, Placed, Answers, PastNode, PastEle
 
 -- the places of a node, and of what stands behind it
 first_placed : (n : ℕ) (t : Node) (rs : List Record) → whole t ≡ true → Placed n (flat t rs) → Inside n t
-first_placed n t rs w p = subst (Placed n) (take_flat t rs w) (All-take _ _ (flat t rs) p)
+first_placed n t rs w p = let P : Record → Type 0 = λ r. placed n r.event ≡ true in subst (Placed n) (take_flat t rs w) (recursion_from_All P _ (All-take P _ (flat t rs) (All-from_recursion P _ p)))
 
 rest_placed : (n : ℕ) (t : Node) (rs : List Record) → whole t ≡ true → Placed n (flat t rs) → Placed n rs
-rest_placed n t rs w p = subst (Placed n) (drop_flat t rs w) (All-drop _ _ (flat t rs) p)
+rest_placed n t rs w p = let P : Record → Type 0 = λ r. placed n r.event ≡ true in subst (Placed n) (drop_flat t rs w) (recursion_from_All P _ (All-drop P _ (flat t rs) (All-from_recursion P _ p)))
 
 -- no node is read from no slots
 no_node : (t : Node) (r s : List Record) → length s ≡ 0 → whole t ≡ true → s ≡ flat t r → ⊥
