@@ -52,7 +52,7 @@ pub fn read_line(line: &str) -> Result<Option<Record>, LineFault>
     if is_silent(line) {
         return Ok(None);
     }
-    Ok(Some(read_record(line)?))
+    read_record(line).map(Some)
 }
 
 /// The records that the lines of a file say, in order.
