@@ -8,6 +8,7 @@ use records::record::Record;
 use scalars::typed::Scalar;
 
 /// The six kinds of events, and the scalars among them that read as integers and as nulls.
+// An enum and no closure for each: the contract of a count names the kind.
 #[derive(Clone, Copy)]
 pub enum Kind {
     Scalar,

@@ -9,6 +9,7 @@ use records::record::{Event, Place, Record, ScalarStyle};
 use records::tags::SfTag;
 
 /// An event whose text and raw tag are parts of the text.
+// The cases and their fields are the original's, each with its location.
 #[derive(Clone, Copy, PartialEq, Eq, Debug)]
 pub enum Ev<'t> {
     Scalar {
@@ -60,6 +61,7 @@ fn raw_part<'t>(text: &'t [u8], raw_tag: Option<Place>) -> Option<&'t [u8]>
 
 impl<'t> Ev<'t> {
     /// The event of a record over its text, or nothing where a place of the record leaves the text.
+    // A record and a text, and no struct of both: one text serves all records of a tape or a rack.
     pub fn of(record: Record, text: &'t [u8]) -> Option<Ev<'t>>
         ensures { option_map view_of result ≡ seen text.now «record» }
     {

@@ -14,6 +14,7 @@ use scalars::nulls::scalar_is_nullish;
 use scalars::typed::Scalar;
 
 /// An alias to a node that is still open, an integer by its value, or another scalar by its bytes and its tag.
+// An integer's sign and magnitude are both read, as its reading answers them.
 #[derive(Clone, Copy, PartialEq, Eq, Debug)]
 pub enum KeyLeaf<'t> {
     RecursiveAlias {
@@ -66,6 +67,7 @@ pub fn scalar_leaf<'t>(scalar: Scalar<'t>, raw: Option<&'t [u8]>) -> KeyLeaf<'t>
 }
 
 /// Whether two scalars or recursive aliases count as the same.
+// A function over `==`, since its contract says what `==` of the bytes means.
 pub fn same_leaves(a: KeyLeaf, b: KeyLeaf) -> bool
     ensures { result ≡ same_leaf (stands_for a.entry) (stands_for b.entry) }
 {

@@ -69,6 +69,7 @@ impl<'t> WrittenTag<'t> {
 }
 
 /// Whether two tags count as the same.
+// A function over `==`, since its contract says what `==` of the bytes means.
 pub fn same_tags(a: CanonicalKeyTag, b: CanonicalKeyTag) -> bool
     ensures { result ≡ same_canon (canon_of a.entry) (canon_of b.entry) }
 {

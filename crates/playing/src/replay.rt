@@ -90,6 +90,7 @@ impl Reel for Replay<'_> {
     }
 }
 
+// Each takes slots and span, and no struct of both: what a playback promises is said of all slots and a span of them.
 impl<'a> Replay<'a> {
     /// A playback of the slots of a span, the first of them marked or not.
     fn start(

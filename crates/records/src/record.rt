@@ -38,6 +38,7 @@ fn raw_lies_within(raw_tag: Option<Place>, text_len: usize) -> bool
 }
 
 /// What happens in a source. An anchor is a number, 0 for none; a raw tag is the tag as it was written.
+// The cases and their fields are the original's, its anchor of 0 among them.
 #[derive(Clone, Copy, PartialEq, Eq, Debug)]
 pub enum Event {
     Scalar {

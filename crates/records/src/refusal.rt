@@ -40,6 +40,7 @@ pub enum Layer {
 }
 
 /// A refusal: the reason, where it arose, and the tape's record for a faulty one, else 0.
+// By a rule of the project every refusal has an offset, 0 where no record is faulty.
 #[derive(Clone, Copy, PartialEq, Eq, Debug)]
 pub struct Refusal {
     pub reason: Reason,
@@ -49,6 +50,7 @@ pub struct Refusal {
 
 impl Reason {
     /// The number by which documents and messages name the reason.
+    // A method, and no `From`: a number is what a reason has and not another form of it, and `u8::from` would not say which.
     pub fn number(self) -> u8
         ensures { result ≡ number_of self }
     {
