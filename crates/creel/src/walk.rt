@@ -16,6 +16,7 @@ pub struct Walk {
 
 /// Takes the events of a tape one after another, recursive aliases as they are, and counts those of a kind. A tape or a
 /// text that is too long is refused.
+// Text and tape, and no struct of both: they come from two files, and the reader takes them as they are lent.
 pub fn walk_to_close<'a>(text: &'a [u8], tape: &'a [Record], kind: Kind) -> Result<Walk, Refusal>
     ensures { Walked kind text.now tape.now result }
 {

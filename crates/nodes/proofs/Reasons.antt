@@ -119,6 +119,14 @@ module _ (l : Limits) (es : List Record) where
       let y = stop l es c w in
       one_stop b c x y (parted x.front y.front x.rest y.rest (sym x.is ∙ y.is))
 
+  -- no more is taken than there is
+  pub why_taken : (b : Bar) → Why l es b → b.taken ≤ length es
+  why_taken b (Why.early s) = omega arith
+  why_taken b (Why.misplaced front r q e s d n) = let a = ap length e ∙ length-append front (r ∷ q) in omega arith
+  why_taken b (Why.full front r q e s g h) = let a = ap length e ∙ length-append front (r ∷ q) in omega arith
+  why_taken b (Why.outside front r q e s g h p) = let a = ap length e ∙ length-append front (r ∷ q) in omega arith
+  why_taken b (Why.too_deep front r q e s g h p t o) = let a = ap length e ∙ length-append front (r ∷ q) in omega arith
+
   -- no whole node stands at the front of what is taken
   unfinished : (u : Node) (q : List Record) {front : List Record} → whole u ≡ true → SoFar l front → front ≡ flat u [] ++ q → ⊥
   unfinished u q w s e =
