@@ -2,3 +2,4 @@
 pub mod Finding
 pub mod Removing
 pub mod PairLaws
+pub mod PairMaps
