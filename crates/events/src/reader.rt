@@ -1,5 +1,5 @@
 // A reel, read as a source of events.
-ghost use Rattle.std.specs.Prelude.{◌≡◌, true, false};
+ghost use Rattle.std.specs.Prelude.{◌≡◌, true, false, not, ◌||◌};
 ghost use Rattle.records.specs.Blank.{unknown};
 ghost use Rattle.events.specs.Meaning.{peeked, settled, deferred, own_at};
 ghost use Rattle.events.specs.Reels.{reading, reader_meaning};
@@ -48,6 +48,13 @@ impl<'a, R: Reel> Reader<'a, R> {
         };
         Ok(Some(shown_as(record, self.resolved)))
     }
+
+    /// Keeps the front as it was answered.
+    fn settle(&mut self)
+        ensures { reader_meaning R.coming R.ending R.beyond self.new ≡ reading (R.coming self.old.reel) (R.ending self.old.reel) (R.beyond self.old.reel) (self.old.resolved || not self.old.deferring) self.old.deferring self.old.last self.old.anchors.now }
+    {
+        self.resolved |= !self.deferring;
+    }
 }
 
 impl<'a, R: Reel> Events for Reader<'a, R> {
@@ -58,7 +65,7 @@ impl<'a, R: Reel> Events for Reader<'a, R> {
             return Ok(None);
         };
         let record = resolve_recursive_alias(record, self.deferring, self.anchors)?;
-        self.resolved |= !self.deferring;
+        self.settle();
         Ok(Some(record))
     }
 
