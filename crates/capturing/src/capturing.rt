@@ -21,7 +21,7 @@ fn depth_left(opened: usize) -> usize
 /// Captures the next node, each recursive alias as it stands, behind the first `fill` slots, where `opened` containers
 /// are open around it. The source's deferral is as it was on every way out, and so is the fill on every way out but
 /// acceptance.
-// The slots, their fill and the text's length come apart, since the crate works on lent slices and numbers.
+// By a rule of the project a rack is a lent slice with its fill beside it; the rack itself is not built yet.
 pub fn capture_node<S: Events>(
     source: &mut S,
     text_len: usize,

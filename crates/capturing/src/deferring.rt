@@ -37,6 +37,7 @@ impl<'s, S: Events> DeferralGuard<'s, S> {
 }
 
 /// A source that defers its recursive aliases.
+// That it stays the same reference is said of each call: it compares before and after, and a ghost field has one value.
 #[derive(Drop)]
 pub(crate) struct Deferring<'s, S: Events> {
     pub(crate) source: &'s mut S,

@@ -6,6 +6,7 @@ use records::record::Record;
 
 /// The slots that a capture fills, over a text of so many bytes. The fill is put back when it is let go, unless the
 /// capture was kept.
+// Slots and a fill, and no `Vec`: both are lent, and there is no heap.
 pub(crate) struct FillGuard<'f> {
     fill: &'f mut usize,
     slots: &'f mut [Record],

@@ -16,8 +16,8 @@ pub(crate) fn is_misplaced(spot: Spot, event: Event) -> bool
     ensures { result ≡ misplaced spot event }
 {
     match event {
-        Event::SeqEnd => !matches!(spot, Spot::Element),
-        Event::MapEnd => !matches!(spot, Spot::Key),
+        Event::SeqEnd => spot != Spot::Element,
+        Event::MapEnd => spot != Spot::Key,
         _ => false,
     }
 }

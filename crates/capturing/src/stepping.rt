@@ -26,7 +26,7 @@ impl Spot {
     fn is_done(self) -> bool
         ensures { result ≡ is_done self }
     {
-        matches!(self, Spot::Done)
+        self == Spot::Done
     }
 }
 

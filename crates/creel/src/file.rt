@@ -59,15 +59,10 @@ pub fn read_line(line: &str) -> Result<Option<Record>, LineFault>
 pub fn read_tape(heap: Global, contents: &str) -> Result<Vec<Record>, FileFault> {
     let mut tape = Vec::new(heap);
     for (i, line) in contents.lines().enumerate() {
-        match read_line(line) {
-            Ok(Some(record)) => tape.push(record)?,
-            Ok(None) => {}
-            Err(fault) => {
-                return Err(FileFault::Line {
-                    number: i.saturating_add(1),
-                    fault,
-                });
-            }
+        let number = i.saturating_add(1);
+        let said = read_line(line).map_err(|fault| FileFault::Line { number, fault })?;
+        if let Some(record) = said {
+            tape.push(record)?;
         }
     }
     Ok(tape)

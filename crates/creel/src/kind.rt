@@ -6,10 +6,11 @@ ghost use Rattle.creel.specs.Kinds.{Of, OfRecord, ReadsInteger};
 use events::ev::Ev;
 use records::record::Record;
 use scalars::typed::Scalar;
+use std::fmt;
 
 /// The six kinds of events, and the scalars among them that read as integers and as nulls.
 // An enum and no closure for each: the contract of a count names the kind.
-#[derive(Clone, Copy)]
+#[derive(Clone, Copy, PartialEq, Eq, Debug)]
 pub enum Kind {
     Scalar,
     SeqStart,
@@ -21,6 +22,22 @@ pub enum Kind {
     Null,
 }
 
+/// The kind in a few words, which may be padded.
+impl fmt::Display for Kind {
+    fn fmt<W: fmt::Write>(&self, f: &mut fmt::Formatter<W>) -> fmt::Result {
+        f.pad(match self {
+            Kind::Scalar => "scalars",
+            Kind::SeqStart => "sequences begun",
+            Kind::SeqEnd => "sequences ended",
+            Kind::MapStart => "mappings begun",
+            Kind::MapEnd => "mappings ended",
+            Kind::RecursiveAlias => "recursive aliases",
+            Kind::Integer => "of them integers",
+            Kind::Null => "of them nulls",
+        })
+    }
+}
+
 fn reads_as_integer(scalar: Scalar) -> bool
     ensures { Decides result (ReadsInteger scalar.entry.tag scalar.entry.style scalar.entry.value.now) }
 {
@@ -30,32 +47,15 @@ fn reads_as_integer(scalar: Scalar) -> bool
 fn is_of(ev: Ev, kind: Kind) -> bool
     ensures { Decides result (Of kind (view_of ev.entry)) }
 {
-    match (kind, ev) {
-        (Kind::Scalar, Ev::Scalar { .. })
-        | (Kind::SeqStart, Ev::SeqStart { .. })
-        | (Kind::SeqEnd, Ev::SeqEnd { .. })
-        | (Kind::MapStart, Ev::MapStart { .. })
-        | (Kind::MapEnd, Ev::MapEnd { .. })
-        | (Kind::RecursiveAlias, Ev::RecursiveAlias { .. }) => true,
-        (
-            Kind::Integer,
-            Ev::Scalar {
-                value,
-                tag,
-                style,
-                ..
-            },
-        ) => reads_as_integer(Scalar { value, tag, style }),
-        (
-            Kind::Null,
-            Ev::Scalar {
-                value,
-                tag,
-                style,
-                ..
-            },
-        ) => Scalar { value, tag, style }.is_null(),
-        _ => false,
+    match kind {
+        Kind::Scalar => matches!(ev, Ev::Scalar { .. }),
+        Kind::SeqStart => matches!(ev, Ev::SeqStart { .. }),
+        Kind::SeqEnd => matches!(ev, Ev::SeqEnd { .. }),
+        Kind::MapStart => matches!(ev, Ev::MapStart { .. }),
+        Kind::MapEnd => matches!(ev, Ev::MapEnd { .. }),
+        Kind::RecursiveAlias => matches!(ev, Ev::RecursiveAlias { .. }),
+        Kind::Integer => Scalar::of(ev).is_some_and(reads_as_integer),
+        Kind::Null => Scalar::of(ev).is_some_and(Scalar::is_null),
     }
 }
 

@@ -5,25 +5,25 @@ use crate::walk::walk_to_close;
 use records::record::Record;
 use std::io;
 
-const KINDS: [(Kind, &str); 8] = [
-    (Kind::MapStart, "mappings begun"),
-    (Kind::MapEnd, "mappings ended"),
-    (Kind::SeqStart, "sequences begun"),
-    (Kind::SeqEnd, "sequences ended"),
-    (Kind::RecursiveAlias, "recursive aliases"),
-    (Kind::Scalar, "scalars"),
-    (Kind::Integer, "of them integers"),
-    (Kind::Null, "of them nulls"),
+const KINDS: [Kind; 8] = [
+    Kind::MapStart,
+    Kind::MapEnd,
+    Kind::SeqStart,
+    Kind::SeqEnd,
+    Kind::RecursiveAlias,
+    Kind::Scalar,
+    Kind::Integer,
+    Kind::Null,
 ];
 
 /// Walks the tape for each kind of event, and says how many there are and how the tape closes.
 fn report_events(rt: &HostRuntime, text: &[u8], tape: &[Record]) -> io::Result<()> {
     let mut fault = None;
-    for (kind, name) in KINDS {
+    for kind in KINDS {
         match walk_to_close(text, tape, kind) {
             Ok(walk) => {
                 let count = walk.count;
-                println!(rt; "  {name:<18}{count:>4}")?;
+                println!(rt; "  {kind:<18}{count:>4}")?;
                 fault = walk.fault;
             }
             Err(refusal) => return println!(rt; "  not read: {refusal}"),

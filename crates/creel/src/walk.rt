@@ -8,7 +8,7 @@ use records::record::Record;
 use records::refusal::Refusal;
 
 /// How many events of a kind a tape gives, and the fault that it closes with, if there is one.
-#[derive(Clone, Copy)]
+#[derive(Clone, Copy, PartialEq, Eq, Debug)]
 pub struct Walk {
     pub count: usize,
     pub fault: Option<Refusal>,

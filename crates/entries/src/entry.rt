@@ -5,7 +5,7 @@ use crate::rules::Basis;
 #[derive(Clone, Copy, PartialEq, Eq, Debug)]
 pub struct Key {
     pub slot: usize,
-    // A flag, and no enum of keys: the slot is read alike whatever the mark says.
+    // A flag, and no enum of keys: both kinds have a slot, and the mark only says how an alias in it is read.
     pub marked: bool,
 }
 

@@ -10,7 +10,7 @@ pub struct Policies {
 }
 
 /// The text, the known anchors and the policies.
-#[derive(Clone, Copy)]
+#[derive(Clone, Copy, PartialEq, Eq, Debug)]
 pub struct Rules<'r> {
     pub text: &'r [u8],
     pub anchors: &'r [u32],

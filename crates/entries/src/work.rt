@@ -1,4 +1,5 @@
 // Working memory, lent beside a rack and beside a table of entries. What it holds means nothing from call to call.
+// Slices and numbers of slots, and no map or box: the memory is lent, and there is no heap.
 use crate::entry::{Key, PendingEntry};
 
 /// What is noted of the node that begins at a slot while nodes are compared: how many slots it has, and its class, a

@@ -9,7 +9,7 @@ use records::record::{Event, Place, Record, ScalarStyle};
 use records::tags::SfTag;
 
 /// An event whose text and raw tag are parts of the text.
-// The cases and their fields are the original's, each with its location.
+// By a rule of the project the cases and their fields are the original's, each with its location.
 #[derive(Clone, Copy, PartialEq, Eq, Debug)]
 pub enum Ev<'t> {
     Scalar {

@@ -20,8 +20,6 @@ pub fn null_of(alias: Record, anchor: u32) -> Record
     ensures { result ≡ nulled alias anchor }
 {
     Record {
-        location: alias.location,
-        origin: alias.origin,
         event: Event::Scalar {
             anchor,
             tag: SfTag::Null,
@@ -29,6 +27,7 @@ pub fn null_of(alias: Record, anchor: u32) -> Record
             style: ScalarStyle::Plain,
             value: Place { start: 0, len: 0 },
         },
+        ..alias
     }
 }
 

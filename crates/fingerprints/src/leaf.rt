@@ -67,7 +67,7 @@ pub fn scalar_leaf<'t>(scalar: Scalar<'t>, raw: Option<&'t [u8]>) -> KeyLeaf<'t>
 }
 
 /// Whether two scalars or recursive aliases count as the same.
-// A function over `==`, since its contract says what `==` of the bytes means.
+// A function over `==`, since callers go by the theory's `same_leaf`, which knows no bytes.
 pub fn same_leaves(a: KeyLeaf, b: KeyLeaf) -> bool
     ensures { result ≡ same_leaf (stands_for a.entry) (stands_for b.entry) }
 {

@@ -22,12 +22,12 @@ fn is_merge_key(scalar: Scalar) -> bool
 pub fn is_merge_key_event(ev: Ev) -> bool
     ensures { result ≡ merge_key (view_of ev.entry) }
 {
-    matches!(ev, Ev::Scalar { value, tag, style, .. } if is_merge_key(Scalar { value, tag, style }))
+    Scalar::of(ev).is_some_and(is_merge_key)
 }
 
 /// Whether an event is a null: tagged so, or plain with a null text under a tag that leaves it to be read.
 pub fn is_null_event(ev: Ev) -> bool
     ensures { result ≡ null_value (view_of ev.entry) }
 {
-    matches!(ev, Ev::Scalar { value, tag, style, .. } if Scalar { value, tag, style }.is_null())
+    Scalar::of(ev).is_some_and(Scalar::is_null)
 }

@@ -69,7 +69,7 @@ impl<'t> WrittenTag<'t> {
 }
 
 /// Whether two tags count as the same.
-// A function over `==`, since its contract says what `==` of the bytes means.
+// A function over `==`, since callers go by the theory's `same_canon`, which knows no bytes.
 pub fn same_tags(a: CanonicalKeyTag, b: CanonicalKeyTag) -> bool
     ensures { result ≡ same_canon (canon_of a.entry) (canon_of b.entry) }
 {

@@ -3,7 +3,7 @@ ghost use Rattle.std.specs.Prelude.{◌≡◌, Bool};
 ghost use Rattle.kept.specs.Equivalence.{Equivalence};
 
 /// A way to compare two elements: reflexive, symmetric and transitive.
-// A value of a small trait, and no closure: it brings the laws by which lists pair off.
+// By a rule of the project an equality is a value of a small trait that is passed to each call; it brings its laws.
 pub trait Equality<T> {
     ghost same: { Self → T → T → Bool };
 

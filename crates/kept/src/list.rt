@@ -1,4 +1,8 @@
 // What a kept list is.
+ghost use Rattle.std.specs.Prelude.{Some, codes};
+
+use std::error::Error;
+use std::fmt;
 use std::marker::Model;
 
 mod holding;
@@ -28,3 +32,13 @@ impl<'a, T> Model for Kept<'a, T> {
 /// Every place of the lent slice is taken.
 #[derive(Clone, Copy, PartialEq, Eq, Debug)]
 pub struct Full;
+
+impl fmt::Display for Full {
+    ghost output = { λ _. Some (codes "every place is taken") };
+
+    fn fmt<W: fmt::Write>(&self, f: &mut fmt::Formatter<W>) -> fmt::Result {
+        f.write_str("every place is taken")
+    }
+}
+
+impl Error for Full {}

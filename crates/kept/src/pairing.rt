@@ -1,20 +1,20 @@
 // Whether the elements of two lists pair off.
-ghost use Rattle.std.specs.Prelude.{◌≡◌, ◌<◌, ◌≤◌, true, ◌↔◌, length, MatchOption};
+ghost use Rattle.std.specs.Prelude.{◌≡◌, ◌<◌, ◌≤◌, true, ◌↔◌, length, MatchResult};
 ghost use Rattle.kept.specs.Pairing.{Paired, paired};
 
 use crate::equality::Equality;
-use crate::list::Kept;
+use crate::list::{Full, Kept};
 
-/// Whether the elements of the two lists pair off one to one, each with an equal one. `None` where `room` has fewer
+/// Whether the elements of the two lists pair off one to one, each with an equal one. Refused where `room` has fewer
 /// places than `xs` has elements.
-pub fn pair_off<T: Copy, E: Equality<T>>(eq: &E, xs: &[T], ys: &[T], room: &mut [T]) -> Option<bool>
-    ensures { MatchOption result
-        (length room.old < length xs.now)
-        (λ b. (length xs.now ≤ length room.old) × ((b ≡ true) ↔ Paired (E.same eq.now) xs.now ys.now)) }
+pub fn pair_off<T: Copy, E: Equality<T>>(eq: &E, xs: &[T], ys: &[T], room: &mut [T]) -> Result<bool, Full>
+    ensures { MatchResult result
+        (λ b. (length xs.now ≤ length room.old) × ((b ≡ true) ↔ Paired (E.same eq.now) xs.now ys.now))
+        (λ _. length room.old < length xs.now) }
 {
     let mut left = Kept::new(room);
-    left.extend_from_slice(xs).ok()?;
-    Some(take_all_off(&mut left, eq, ys))
+    left.extend_from_slice(xs)?;
+    Ok(take_all_off(&mut left, eq, ys))
 }
 
 // Takes an equal of each element of `ys` off, and says whether each had one and nothing is left.

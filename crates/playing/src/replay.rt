@@ -90,7 +90,7 @@ impl Reel for Replay<'_> {
     }
 }
 
-// Each takes slots and span, and no struct of both: what a playback promises is said of all slots and a span of them.
+// Three names over one `start`, each of slots and a span: what is played of all slots by a span is each one's own law.
 impl<'a> Replay<'a> {
     /// A playback of the slots of a span, the first of them marked or not.
     fn start(

@@ -38,7 +38,7 @@ fn raw_lies_within(raw_tag: Option<Place>, text_len: usize) -> bool
 }
 
 /// What happens in a source. An anchor is a number, 0 for none; a raw tag is the tag as it was written.
-// The cases and their fields are the original's, its anchor of 0 among them.
+// By a rule of the project the cases and their fields are the original's, and an anchor is a number of 32 bits, 0 for none.
 #[derive(Clone, Copy, PartialEq, Eq, Debug)]
 pub enum Event {
     Scalar {
@@ -75,8 +75,9 @@ impl Event {
             Event::Scalar { raw_tag, value, .. } => {
                 raw_lies_within(raw_tag, text_len) && value.lies_within(text_len)
             }
-            Event::SeqStart { raw_tag, .. } => raw_lies_within(raw_tag, text_len),
-            Event::MapStart { raw_tag, .. } => raw_lies_within(raw_tag, text_len),
+            Event::SeqStart { raw_tag, .. } | Event::MapStart { raw_tag, .. } => {
+                raw_lies_within(raw_tag, text_len)
+            }
             Event::SeqEnd | Event::MapEnd | Event::RecursiveAlias { .. } => true,
         }
     }

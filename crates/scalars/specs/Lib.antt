@@ -8,3 +8,4 @@ pub mod Signs
 pub mod Spelling
 pub mod Trimmed
 pub mod Typed
+pub mod Seen

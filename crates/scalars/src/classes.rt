@@ -6,7 +6,7 @@ ghost use Rattle.scalars.specs.Class.{class_of};
 pub const UNDERSCORE: u8 = 16;
 
 // The class of each byte, at its place; 255 where no comment names the byte.
-// The project fixed this form: numbers in a constant table of 256 entries, and one test over all bytes that proves their rule.
+// By a rule of the project these are numbers in a constant table of 256 entries, and one test over all bytes that proves their rule.
 const CLASSES: [u8; 256] = [
     255, 255, 255, 255, 255, 255, 255, 255, 255, 255, 255, 255, 255, 255, 255, 255, 255, 255, 255,
     255, 255, 255, 255, 255, 255, 255, 255, 255, 255, 255, 255, 255, 255, 255, 255, 255, 255, 255,

@@ -9,7 +9,7 @@ use crate::radix::radix_and_digits;
 use crate::trim::yaml_trim;
 
 // Whether a minus sign leads, and what follows the sign, if there is one.
-// A pair, since the project fixed that the sign stands beside the number; this is that sign.
+// A pair: sign and rest are both there always, and are taken apart at once.
 fn split_sign(text: &[u8]) -> (bool, &[u8])
     ensures minus { result.0 ≡ is_minus text.now }
     ensures rest { result.1.now ≡ unsigned text.now }
@@ -30,7 +30,7 @@ fn leading_zero(radix: u64, digits: &[u8]) -> bool
 
 // The number that digits spell, with an underscore between two digits at most.
 // A loop: `try_fold` would pack the number and `after_digit` into one tuple, and say no more plainly what a byte changes.
-fn parse_digits(digits: &[u8], radix: u64) -> Option<u64>
+fn parse_digits(radix: u64, digits: &[u8]) -> Option<u64>
     requires some { 1 ≤ radix }
     requires small { radix ≤ 16 }
     ensures { Number radix digits.now result }
@@ -56,7 +56,7 @@ fn parse_digits(digits: &[u8], radix: u64) -> Option<u64>
     after_digit.then_some(value)
 }
 
-// The project fixed the answer's form, sign and magnitude together.
+// By a rule of the project the answer is sign and magnitude as a pair, or nothing.
 /// The integer that `text` spells, as its sign, `true` for a negative one, and its magnitude. `None` where it spells
 /// none, or one whose magnitude takes more than 64 bits.
 pub fn parse_integer(text: &[u8]) -> Option<(bool, u64)>
@@ -68,6 +68,6 @@ pub fn parse_integer(text: &[u8]) -> Option<(bool, u64)>
     if leading_zero(radix, digits) {
         return None;
     }
-    let magnitude = parse_digits(digits, radix)?;
+    let magnitude = parse_digits(radix, digits)?;
     Some((minus && magnitude != 0, magnitude))
 }

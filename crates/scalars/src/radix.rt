@@ -2,7 +2,7 @@
 ghost use Rattle.std.specs.Prelude.{◌≡◌};
 ghost use Rattle.scalars.specs.Radices.{radix_of, digits_of};
 
-// The project fixed this form: a pair of radix and digits, by slice patterns.
+// By a rule of the project this is a pair of radix and digits, by slice patterns.
 /// The radix that the prefix of `rest` names, ten where it has none, and what follows the prefix.
 pub fn radix_and_digits(rest: &[u8]) -> (u64, &[u8])
     ensures radix { result.0 ≡ radix_of rest.now }

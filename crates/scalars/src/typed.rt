@@ -1,10 +1,12 @@
 // What a scalar reads as, by its tag and its style as well as its text.
 ghost use Rattle.std.specs.Prelude.{◌≡◌, Decides};
 ghost use Rattle.scalars.specs.Computed.{integer_over, null_over};
+ghost use Rattle.scalars.specs.Seen.{scalar_in};
 ghost use Rattle.scalars.specs.Typed.{NullScalar, TypedReading};
 
 use crate::integer::parse_integer;
 use crate::nulls::scalar_is_nullish;
+use events::ev::Ev;
 use records::record::ScalarStyle;
 use records::tags::SfTag;
 
@@ -16,7 +18,22 @@ pub struct Scalar<'t> {
     pub style: ScalarStyle,
 }
 
-impl Scalar<'_> {
+impl<'t> Scalar<'t> {
+    /// The scalar that an event is, if it is one.
+    pub fn of(ev: Ev<'t>) -> Option<Scalar<'t>>
+        ensures { result ≡ scalar_in ev.entry }
+    {
+        match ev {
+            Ev::Scalar {
+                value,
+                tag,
+                style,
+                ..
+            } => Some(Scalar { value, tag, style }),
+            _ => None,
+        }
+    }
+
     /// Whether the scalar is null: by its tag, or by a plain null text under a tag that leaves the text to be read.
     pub fn is_null(self) -> bool
         ensures decides { Decides result (NullScalar self.entry.tag self.entry.style self.entry.value.now) }
@@ -32,7 +49,7 @@ impl Scalar<'_> {
         }
     }
 
-    // The project fixed the answer's form, sign and magnitude together.
+    // By a rule of the project the answer is sign and magnitude as a pair, or nothing.
     /// The integer that the scalar reads as: one with the tag for integers, or a plain one with no tag.
     pub fn integer(self) -> Option<(bool, u64)>
         ensures reading { TypedReading self.entry.tag self.entry.style self.entry.value.now result }

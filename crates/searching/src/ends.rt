@@ -21,6 +21,7 @@ fn depth_after(event: Event, depth: usize) -> usize
 }
 
 /// The slot behind the node that begins at `at`; some slot behind `at`, or the end, where no whole node does.
+// A slot and no `Option`, as `visit_node`; and a held node is named by its first slot, by a rule of the project.
 pub fn node_end(slots: &[Record], at: usize) -> usize
     ensures onward { Onward slots.now at result }
     ensures node { (t : Node) (rest : List Record) → whole t ≡ true → drop at slots.now ≡ flat t rest → result ≡ at + size t }

@@ -26,6 +26,7 @@ fn past_elements<'s>(text: &[u8], slots: &'s [Record]) -> Result<&'s [Record], L
     Ok(left)
 }
 
+// Not one function with the elements: a key is tested, and two nodes are passed at each turn.
 // What is left behind the pairs and the end of their mapping, or where the first merge key of them or inside them is.
 #[cycle(past_node)]
 fn past_pairs<'s>(text: &[u8], slots: &'s [Record]) -> Result<&'s [Record], Location>
@@ -66,6 +67,7 @@ fn past_node<'s>(text: &[u8], slots: &'s [Record]) -> Result<&'s [Record], Locat
 
 /// The slot behind the node that begins at `at`, or where the first merge key inside it stands; the end, where no node
 /// begins.
+// A slot and no `Option`: it promises one in each case, and a walk that goes on there ends.
 pub fn visit_node(text: &[u8], slots: &[Record], at: usize) -> Result<usize, Location>
     ensures onward { IfOk result (λ n. Onward slots.now at n) }
     ensures found { Visited text.now slots.now at result }

@@ -3,7 +3,7 @@ use records::record::Place;
 use records::tags::SfTag;
 
 /// A node's anchor, its tag, and its tag as it was written.
-#[derive(Clone, Copy)]
+#[derive(Clone, Copy, PartialEq, Eq, Debug)]
 pub(crate) struct Head {
     pub(crate) anchor: u32,
     pub(crate) tag: SfTag,

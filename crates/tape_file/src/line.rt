@@ -13,7 +13,7 @@ use std::fmt;
 
 /// A record, or a part of one, to be shown as a tape file has it: `{}` of a `Line<Record>` is its line.
 // An impl for each part, and of this type, since the parts are another crate's: one impl over a trait would only move the same bodies.
-#[derive(Clone, Copy)]
+#[derive(Clone, Copy, PartialEq, Eq, Debug)]
 pub struct Line<T>(pub T);
 
 impl fmt::Display for Line<Location> {

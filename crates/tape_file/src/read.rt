@@ -13,6 +13,7 @@ use records::record::{Event, Place, Record};
 use std::str::FromStr;
 
 /// The record whose line this is, or else why it is the line of none.
+// Beside `parse`, since a caller wants the record and no `Line` around it.
 pub fn read_record(line: &str) -> Result<Record, LineFault>
     ensures { Reads line.now result }
 {

@@ -1,5 +1,5 @@
 -- The test of `ys` against `xs` tells whether `xs` and `ys` pair off.
-use Rattle.std.proofs.Common.{◌≡◌, Bool, true, ◌↔◌, List, ◌++◌, length, Ok, Err, Result, is_ok, MatchResult, sym, ap, ◌∙◌, arith}
+use Rattle.std.proofs.Common.{◌≡◌, Bool, true, ◌↔◌, List, ◌++◌, length, sym, ap, ◌∙◌, arith}
 use Rattle.std.specs.Cmp.{IsEquivalence}
 use Rattle.kept.specs.Pairing.{Paired, paired}
 use Rattle.kept.proofs.PairLaws.{test_is_relation, pairing_is_equivalence}
@@ -12,15 +12,10 @@ answered same eq xs ys held b h e =
       λ d. test ∙ (test_is_relation same eq ys xs).1 ((pairing_is_equivalence same eq).symmetric xs ys d),
     )
 
--- the fact of an `Ok`
-at_ok : {T E P : Type 0} (Q : E → Type 0) (r : Result T E) → true ≡ is_ok r → MatchResult r (λ _. P) Q → P
-at_ok Q (Ok x) e h = h
-at_ok Q (Err y) e h = absurd (cc)
-
 pub returns : goal.returns
 returns g c =
     let xs = c.args.xs.now in
-    let filled = at_ok _ c.extend_from_slice.result c.in_ok-ok.ensures.variant c.extend_from_slice.ensures.list in (
+    let filled = c.in_ok-extend_from_slice.ensures.list in (
       omega (arith, filled.0, ap length c.new-left.ensures.list, c.new-left.ensures.room),
       answered (g.E.Equality.same c.args.eq.now) (g.met.E.Equality.lawful c.args.eq.now)
           xs c.args.ys.now _ _ (filled.1 ∙ ap (λ zs. zs ++ xs) c.new-left.ensures.list) c.take_all_off.ensures,
