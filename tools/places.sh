@@ -4,7 +4,7 @@ cd "${1:-.}" || exit 1
 src() { grep -rnE "$1" crates/*/src --include='*.rt' | grep -vE '^crates/examples/|:[0-9]+: *//'; }
 point() { printf '== %s\n' "$1"; }
 point '1a flags'
-src '^ +(pub |pub\(crate\) )?[a-z_]+: bool,$'
+src '\b[a-z_]+: bool\b'
 point '1b pairs of a flag or a number and something'
 src '\((bool|u64), '
 point '1c refusals as options'
@@ -36,8 +36,14 @@ c = collections.defaultdict(list)
 for f in sorted(glob.glob('crates/*/src/**/*.rt', recursive=True)):
     if f.startswith('crates/examples/'):
         continue
-    for m in re.finditer(r'fn (\w+)(?:<[^>]*>)?\(([^)]*)\)', open(f).read()):
-        names = {p.split(':')[0].strip().replace('mut ', '') for p in m.group(2).split(',') if ':' in p}
+    text = open(f).read()
+    for m in re.finditer(r'\bfn (\w+)', text):
+        at, depth = m.end(), 0
+        while depth or text[at] != '(':
+            depth += {'<': 1, '>': -1}.get(text[at], 0)
+            at += 1
+        given = re.sub(r'<[^<>]*>', '', text[at + 1:text.index(')', at)])
+        names = {p.split(':')[0].strip().replace('mut ', '') for p in given.split(',') if ':' in p}
         for pair in itertools.combinations(sorted(names), 2):
             c[pair].append(f.split('/')[1] + '::' + m.group(1))
 for pair, where in sorted(c.items(), key=lambda kv: (-len(kv[1]), kv[0])):
@@ -45,7 +51,7 @@ for pair, where in sorted(c.items(), key=lambda kv: (-len(kv[1]), kv[0])):
         print(' '.join(pair) + ':', ' '.join(where))
 PY
 point '6a lengths, places and arrays'
-src '\b(len|depth|at|end|count|first|fill): usize,?$|\[[A-Za-z0-9]+; [0-9A-Z_]+\]'
+src '\b(len|depth|at|end|count|first|fill): (&mut )?usize\b|\[[A-Za-z0-9]+; [0-9A-Z_]+\]'
 point '6b elements by a place'
 src '[a-z]\[[a-z_.]+( [+-] 1)?\]'
 point '7 switches and tables of functions'
