@@ -7,7 +7,12 @@ use crate::list::{Full, Kept};
 
 /// Whether the elements of the two lists pair off one to one, each with an equal one. Refused where `room` has fewer
 /// places than `xs` has elements.
-pub fn pair_off<T: Copy, E: Equality<T>>(eq: &E, xs: &[T], ys: &[T], room: &mut [T]) -> Result<bool, Full>
+pub fn pair_off<T: Copy, E: Equality<T>>(
+    eq: &E,
+    xs: &[T],
+    ys: &[T],
+    room: &mut [T],
+) -> Result<bool, Full>
     ensures { MatchResult result
         (λ b. (length xs.now ≤ length room.old) × ((b ≡ true) ↔ Paired (E.same eq.now) xs.now ys.now))
         (λ _. length room.old < length xs.now) }
