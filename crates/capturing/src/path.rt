@@ -5,7 +5,7 @@ use arrayvec::ArrayVec;
 pub(crate) const MAX_OPEN: usize = 64;
 
 /// Where an event stands.
-#[derive(Clone, Copy, PartialEq, Eq, Default)]
+#[derive(Clone, Copy, PartialEq, Eq, Debug, Default)]
 pub(crate) enum Spot {
     /// The node itself.
     #[default]

@@ -43,6 +43,7 @@ impl<'a, R: Reel> Reader<'a, R> {
     fn front(&self) -> Result<Option<Record>, Refusal>
         ensures { result ≡ peeked (deferred true (reader_meaning R.coming R.ending R.beyond self.now)) }
     {
+        // No `map`: of its result nothing is known that the closure answers, so that proof did not close.
         let Some(record) = self.reel.first()? else {
             return Ok(None);
         };

@@ -14,7 +14,8 @@ use scalars::nulls::scalar_is_nullish;
 use scalars::typed::Scalar;
 
 /// An alias to a node that is still open, an integer by its value, or another scalar by its bytes and its tag.
-// An integer's sign and magnitude are both read, as its reading answers them.
+// Sign and magnitude, as an integer is read by a rule of the project; both are always there, so neither makes the other
+// valid.
 #[derive(Clone, Copy, PartialEq, Eq, Debug)]
 pub enum KeyLeaf<'t> {
     RecursiveAlias {

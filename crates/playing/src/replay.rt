@@ -71,6 +71,7 @@ impl Reel for Replay<'_> {
     ghost beyond = { recorded_past };
 
     fn first(&self) -> Result<Option<Record>, Refusal> {
+        // No `map`: of its result nothing is known that the closure answers, so that proof did not close.
         match self.records {
             [first, ..] => Ok(Some(played_as(*first, self.reference))),
             [] => Ok(None),
@@ -90,7 +91,8 @@ impl Reel for Replay<'_> {
     }
 }
 
-// Three names over one `start`, each of slots and a span: what is played of all slots by a span is each one's own law.
+// Three functions over one `start`: each has a law of its own, of all slots and a span, and a struct of what they take
+// would be made for one call.
 impl<'a> Replay<'a> {
     /// A playback of the slots of a span, the first of them marked or not.
     fn start(

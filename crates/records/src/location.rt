@@ -1,7 +1,7 @@
 // Where a node stands in the source that it was written in.
 
 /// Line and column, from 1, and the number of the source. All zero is `UNKNOWN`.
-// `UNKNOWN` and no `Option`: the original has it so, and a tape's record may hold it.
+// By a rule of the project all zero is `UNKNOWN`, and no `Option`: the original has it so, and a tape's record may hold it.
 #[derive(Clone, Copy, PartialEq, Eq, Debug)]
 pub struct Location {
     pub line: u32,

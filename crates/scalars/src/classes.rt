@@ -45,6 +45,7 @@ const CLASSES: [u8; 256] = [
     255,
 ];
 
+// By the same rule a number: 255 is below no radix, so that one comparison refuses it as a digit.
 /// What a byte is in a number: its value as a digit, 0 to 15, `UNDERSCORE`, or 255 for any other byte.
 pub fn class_of(b: u8) -> u8
     ensures { result ≡ class_of b }
