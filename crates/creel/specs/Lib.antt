@@ -1,3 +1,4 @@
 pub mod Kinds
 pub mod Walks
 pub mod Files
+pub mod Words

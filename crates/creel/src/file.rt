@@ -1,6 +1,7 @@
 // The tape file, line by line.
-ghost use Rattle.std.specs.Prelude.{Decides};
+ghost use Rattle.std.specs.Prelude.{Decides, Some};
 ghost use Rattle.creel.specs.Files.{Says, Silent};
+ghost use Rattle.creel.specs.Words.{file_words};
 
 use records::record::Record;
 use std::alloc::{AllocError, AllocFailed, Global};
@@ -17,6 +18,8 @@ pub enum FileFault {
 }
 
 impl fmt::Display for FileFault {
+    ghost output = { λ x. Some (file_words x) };
+
     fn fmt<W: fmt::Write>(&self, f: &mut fmt::Formatter<W>) -> fmt::Result {
         match self {
             FileFault::Line { number, fault } => write!(f, "line {number}: {fault}"),

@@ -1,7 +1,8 @@
 // Kinds of events to count.
-ghost use Rattle.std.specs.Prelude.{Decides};
+ghost use Rattle.std.specs.Prelude.{Decides, Some};
 ghost use Rattle.events.specs.View.{view_of};
 ghost use Rattle.creel.specs.Kinds.{Of, OfRecord, ReadsInteger};
+ghost use Rattle.creel.specs.Words.{kind_words};
 
 use events::ev::Ev;
 use records::record::Record;
@@ -24,6 +25,8 @@ pub enum Kind {
 
 /// The kind in a few words, which may be padded.
 impl fmt::Display for Kind {
+    ghost output = { λ x. Some (kind_words x) };
+
     fn fmt<W: fmt::Write>(&self, f: &mut fmt::Formatter<W>) -> fmt::Result {
         f.pad(match self {
             Kind::Scalar => "scalars",

@@ -3,3 +3,4 @@ pub mod Lines
 pub mod Reading
 pub mod Spaces
 pub mod Tables
+pub mod Faults

@@ -1,4 +1,7 @@
 // Why a line is not the line of a record.
+ghost use Rattle.std.specs.Prelude.{Some};
+ghost use Rattle.tape_file.specs.Faults.{fault_words};
+
 use std::error::Error;
 use std::fmt;
 
@@ -16,6 +19,8 @@ pub enum LineFault {
 }
 
 impl fmt::Display for LineFault {
+    ghost output = { λ x. Some (fault_words x) };
+
     fn fmt<W: fmt::Write>(&self, f: &mut fmt::Formatter<W>) -> fmt::Result {
         f.write_str(match self {
             LineFault::MissingWord => "the line ends where another word should stand",
