@@ -78,12 +78,6 @@ module _ (k : Kind) (text : List ℕ) (m₀ m : Meaning) (n : ℕ) (w : Walking 
     few = let f = w.few in simp length-append (omega arith);
   }
 
-  pub less : (r : Record) (m' : Meaning) → Ok (Some r) ≡ peeked m → m' ≡ taken (Ok (Some r)) m → length m'.events < length m.events
-  less r m' p e =
-      let a = ap (λ x. length x.events) e in
-      let b = ap length (event_is r p) in
-      omega arith
-
   all_gone : m.events ≡ [] → Counted k text m₀.events n
   all_gone e = subst (λ (l : List Record). Counted k text l n) (sym (w.whole ∙ ap (λ l. w.gone ++ l) e ∙ append-nil w.gone)) w.counted
 

@@ -1,6 +1,5 @@
-use Rattle.std.proofs.Common.{◌≡◌, ℕ, length, sym, ap, ◌∙◌, arith}
-use Rattle.events.proofs.Tapes.{sound_short}
-use Rattle.creel.proofs.Walking.{begun, answered, left, bound, counts, passes, less}
+use Rattle.std.proofs.Common.{◌≡◌, ℕ, sym, ap, ◌∙◌, arith}
+use Rattle.creel.proofs.Walking.{begun, answered, left, counts, passes}
 use Rattle.creel.proofs.walk.walk_to_close.Goals as goal
 
 pub events-init : goal.events-init
@@ -9,31 +8,12 @@ events-init c =
     let after = c.defer_recursive_aliases.ensures.after in
     begun _ _ _ _ (ap (λ m. m.events) after ∙ ap (λ m. m.events) made) (ap (λ m. m.close) after ∙ ap (λ m. m.close) made) (ap (λ m. m.deferring) after)
 
-pub overflow_add-count : goal.overflow_add-count
-overflow_add-count c =
-    let w = c.events.invariant in
-    let r = c.in-Ok-Some.record in
-    let p = answered _ _ _ _ _ w r _ c.in-Ok-Some.field-0-is c.in-Ok-Some.ensures.answer in
-    omega (arith, bound _ _ _ _ _ w r p, c.in_ok-reader.ensures.short, sound_short (length c.args.text.now) c.args.tape.now)
-
-pub events-smaller-then-is_of_kind : goal.events-smaller-then-is_of_kind
-events-smaller-then-is_of_kind c =
-    let w = c.events.invariant in
-    let r = c.in-Ok-Some.record in
-    less _ _ _ _ _ w r _ (answered _ _ _ _ _ w r _ c.in-Ok-Some.field-0-is c.in-Ok-Some.ensures.answer) (left _ _ _ _ _ w r _ _ c.in-Ok-Some.field-0-is c.in-Ok-Some.ensures.after)
-
 pub events-preserved-then-is_of_kind : goal.events-preserved-then-is_of_kind
 events-preserved-then-is_of_kind c =
     let w = c.events.invariant in
     let r = c.in-Ok-Some.record in
     counts _ _ _ _ _ w r _ (answered _ _ _ _ _ w r _ c.in-Ok-Some.field-0-is c.in-Ok-Some.ensures.answer) (left _ _ _ _ _ w r _ _ c.in-Ok-Some.field-0-is c.in-Ok-Some.ensures.after)
     (c.is_of_kind.ensures.0 c.if-is_of_kind.true)
-
-pub events-smaller : goal.events-smaller
-events-smaller c =
-    let w = c.events.invariant in
-    let r = c.in-Ok-Some.record in
-    less _ _ _ _ _ w r _ (answered _ _ _ _ _ w r _ c.in-Ok-Some.field-0-is c.in-Ok-Some.ensures.answer) (left _ _ _ _ _ w r _ _ c.in-Ok-Some.field-0-is c.in-Ok-Some.ensures.after)
 
 pub events-preserved : goal.events-preserved
 events-preserved c =
