@@ -1,5 +1,5 @@
 -- A source that defers its recursive aliases, walked event by event.
-use Rattle.std.proofs.Common.{◌≡◌, ℕ, ◌+◌, ◌<◌, ◌≤◌, true, List, [], ◌∷◌, ◌++◌, length, Some, None, Ok, Err, Option, sym, refl, ap, ◌∙◌, subst, append_assoc, append-nil, arith, length-append}
+use Rattle.std.proofs.Common.{◌≡◌, ℕ, ◌+◌, ◌≤◌, true, List, [], ◌∷◌, ◌++◌, length, Some, None, Ok, Err, Option, sym, refl, ap, ◌∙◌, subst, append_assoc, append-nil, arith, length-append}
 use Rattle.records.specs.declared.record.Record.{Record}
 use Rattle.records.specs.declared.refusal.Refusal.{Refusal}
 use Rattle.events.specs.Meaning.{Meaning, Close, Plain, Fault, front, peeked, taken, tail}
@@ -48,12 +48,6 @@ module _ (k : Kind) (text : List ℕ) (m₀ m : Meaning) (n : ℕ) (w : Walking 
 
   event_is : (r : Record) → Ok (Some r) ≡ peeked m → m.events ≡ r ∷ tail m.events
   event_is r p = at_event m.anchors m.close m.events r (p ∙ peeked_is)
-
-  pub bound : (r : Record) → Ok (Some r) ≡ peeked m → n < length m₀.events
-  bound r p =
-      let e = ap length (w.whole ∙ ap (λ l. w.gone ++ l) (event_is r p)) in
-      let f = w.few in
-      omega (arith, simp length-append at e)
 
   gone_on : (r : Record) → Ok (Some r) ≡ peeked m → m₀.events ≡ (w.gone ++ r ∷ []) ++ tail m.events
   gone_on r p = w.whole ∙ ap (λ l. w.gone ++ l) (event_is r p) ∙ sym (append_assoc w.gone (r ∷ []) (tail m.events))
