@@ -4,10 +4,7 @@ use Rattle.std.specs.List.{AllByRecursion}
 use Rattle.kept.specs.Pairing.{Pick, Paired}
 use Rattle.kept.specs.Pairing.Pick.{here, there}
 use Rattle.kept.specs.Pairing.Paired.{no_more, partner}
-
-all_pick : {X : Type 0} (P : X → Type 0) {same : X → X → Bool} {x : X} {ys rest : List X} → Pick same x ys rest → AllByRecursion P ys → AllByRecursion P rest
-all_pick P (here e) a = a.1
-all_pick P (there d) a = (a.0, all_pick P d a.1)
+use Rattle.kept.proofs.PairLaws.{all_pick}
 
 -- an equality that says no less, among the values of which `P` holds
 module _ {X : Type 0} (P : X → Type 0) (same other : X → X → Bool) (weaker : (x y : X) → P x → P y → same x y ≡ true → other x y ≡ true) where
