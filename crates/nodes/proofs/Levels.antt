@@ -14,13 +14,13 @@ use Rattle.nodes.specs.Tree.{Node, Nodes, Pairs, rec, scalar_event, seq_event, m
 use Rattle.nodes.specs.Tree.Node.{scalar, alias, seq, dict, cut}
 use Rattle.nodes.specs.Tree.Nodes.{none, more}
 use Rattle.nodes.specs.Tree.Pairs.{done, pair}
-use Rattle.nodes.specs.Reading.{Limits, opens, opened, start_at, bars, barss, barsp}
+use Rattle.nodes.specs.Reading.{Limits, opens, opened_from, opened, start_at, bars, barss, barsp}
 use Rattle.nodes.proofs.Fits.{neither, slot_free, place_lies, start_free, passed}
 use Rattle.nodes.proofs.Gaps.{past_node}
 
 -- one more event
-pub opened_push : (xs : List Record) (r : Record) → opened (xs ++ r ∷ []) ≡ opens (opened xs) r.event
-opened_push xs r = grind (arith, fold_push)
+pub opened_push : (n : ℕ) (xs : List Record) (r : Record) → opened_from n (xs ++ r ∷ []) ≡ opens (opened_from n xs) r.event
+opened_push n xs r = grind (arith, fold_push)
 
 module _ (l : Limits) where
   -- i events were taken, and d containers may still be opened
@@ -36,7 +36,7 @@ module _ (l : Limits) where
 
   pub one_more : {d i : ℕ} {front : List Record} → Within d i front → (r : Record) (c : ℕ) → i < l.room → placed l.text r.event ≡ true → opens (opened front) r.event + c ≡ l.deep → Within c (i + 1) (front ++ r ∷ [])
   one_more {d} {i} {front} s r c h p e =
-      let o = opened_push front r in
+      let o = opened_push 0 front r in
       record {
         count = length_push front r ∙ ap (λ n. n + 1) s.count;
         short = omega arith;
@@ -60,13 +60,13 @@ module _ (l : Limits) where
         let (a, b) = neither (start_at l d i k (seq_event x)) _ h in
         let f = start_free l d i k (seq_event x) a in
         let s' = one_more s (rec k (seq_event x)) (d - 1) f.free f.lies (omega (arith, s.level, f.low)) in
-        let o = opened_push front (rec k (seq_event x)) in
+        let o = opened_push 0 front (rec k (seq_event x)) in
         moved (nodes-taken ns s' (omega arith) b) (omega (arith, f.low)) (omega arith) (append_assoc front _ _)
     node-taken {d} {i} {front} (dict k x ps) s h =
         let (a, b) = neither (start_at l d i k (map_event x)) _ h in
         let f = start_free l d i k (map_event x) a in
         let s' = one_more s (rec k (map_event x)) (d - 1) f.free f.lies (omega (arith, s.level, f.low)) in
-        let o = opened_push front (rec k (map_event x)) in
+        let o = opened_push 0 front (rec k (map_event x)) in
         moved (pairs-taken ps s' (omega arith) b) (omega (arith, f.low)) (omega arith) (append_assoc front _ _)
     node-taken (cut c) s h = cc
 

@@ -21,7 +21,7 @@ use Rattle.nodes.specs.Repeats.{firsts, lasts, refuse_merge, dropping, kept_by, 
 use Rattle.nodes.specs.Collect.{Stop, Stand, Gathered, inner, after, and_then, stop_with, captured, slot_for, unknown_at, closed, as_field, as_merge, gather, merge_value, elements, expand, collected}
 use Rattle.nodes.specs.Collect.Stand.{held}
 use Rattle.nodes.specs.Agreeing.{KeysAreUnique}
-use Rattle.nodes.proofs.Stops.{if_ok_then, if_ok_after, if_ok_at, if_ok_stop_with, if_ok_cond, if_ok_by_policy}
+use Rattle.nodes.proofs.Stops.{then_made, stop_with_made, if_ok_then, if_ok_after, if_ok_at, if_ok_stop_with, if_ok_cond, if_ok_by_policy}
 use Rattle.nodes.proofs.Keeping.{error_at_first_repeat}
 
 -- what holds of each field holds of each that is kept
@@ -59,6 +59,11 @@ pub record Parted (b : Basis) (g : Gathered) : Type 0 where
   pub brought : Marked true g.brought
 
 module _ (R : Rules) where
+  pub closed_made : (n : ℕ) (g : Gathered) (es : List Item) → closed R n g ≡ Ok es → (kept : List Item) × (kept_by R.repeats R.merges R.text g.own ≡ Ok kept) × (es ≡ kept ++ g.brought)
+  closed_made n g es h =
+      let (kept, p, q) = then_made _ _ es h in
+      (kept, stop_with_made n _ kept p, cc)
+
   closed_marked : (n : ℕ) (l : Location) (g : Gathered) → Parted (expansion l) g → IfOk (closed R n g) (Marked true)
   closed_marked n l g p = if_ok_then (Marked true) (Marked true) _ _
       (if_ok_stop_with (Marked true) n _ (all_kept (λ e. e.merged ≡ true) R.repeats R.merges R.text g.own p.own))

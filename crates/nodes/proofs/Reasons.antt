@@ -100,7 +100,7 @@ stuck l front r rest q b (outside g h p) w = both_ways _ p (All-contains (λ e. 
 stuck l front r rest q b (too_deep g h p t o) w =
     let e = take-append-add front (r ∷ q) 1 in
     let m : opened (front ++ r ∷ []) ≤ l.deep = subst (λ x. opened x ≤ l.deep) e (w.low (length front + 1)) in
-    let u = opened_push front r in
+    let u = opened_push 0 front r in
     let v = opens_start (opened front) r.event t in
     omega arith
 

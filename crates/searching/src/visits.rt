@@ -13,7 +13,7 @@ use records::record::{Event, Record};
 // What is left behind the elements and the end of their sequence, or where the first merge key inside them is.
 #[cycle(past_node)]
 fn past_elements<'s>(text: &[u8], slots: &'s [Record]) -> Result<&'s [Record], Location>
-    ensures fewer { IfOk result (λ left. length left.now ≤ length slots.now) }
+    ensures fewer { IfOk result (λ left. length left.now ≤ length slots.now - 1) }
     ensures found { PastElements text.now slots.now result }
 {
     let mut left = slots;
@@ -30,7 +30,7 @@ fn past_elements<'s>(text: &[u8], slots: &'s [Record]) -> Result<&'s [Record], L
 // What is left behind the pairs and the end of their mapping, or where the first merge key of them or inside them is.
 #[cycle(past_node)]
 fn past_pairs<'s>(text: &[u8], slots: &'s [Record]) -> Result<&'s [Record], Location>
-    ensures fewer { IfOk result (λ left. length left.now ≤ length slots.now) }
+    ensures fewer { IfOk result (λ left. length left.now ≤ length slots.now - 1) }
     ensures found { PastPairs text.now slots.now result }
 {
     let mut left = slots;
