@@ -4,7 +4,7 @@ use Rattle.std.proofs.lemmas.Bool.{both_ways, cases_lt, cond-true, cond-false, n
 use Rattle.std.proofs.lemmas.Grind.{get_or_at_push}
 use Rattle.std.proofs.lemmas.List.{take_all, take_more, length_push, same_from_push, get_or-take, get_or-drop}
 use Rattle.std.proofs.lemmas.List.Elements.{All-nil, All-cons, All-head, All-tail, All-append, All-from_get_or}
-use Rattle.scalars.specs.Trimmed.{blank, Blanks, BeginsBare, EndsBare, Trimmed}
+use Rattle.scalars.specs.Trimmed.{blank, Blanks, BeginsBare, EndsBare, IsFirstBare, Trimmed}
 use Rattle.scalars.specs.Computed.{bare_front, ahead, bare_back}
 
 abbrev pub Blank : ℕ → Type 0
@@ -16,10 +16,10 @@ bare b = not (blank b)
 abbrev pub Bare : ℕ → Type 0
 Bare b = bare b ≡ true
 
-ends_empty : (r : List ℕ) → length r < 1 → EndsBare r
+pub ends_empty : (r : List ℕ) → length r < 1 → EndsBare r
 ends_empty r h b xs e = absurd (omega (arith, ap length e, length_push xs b))
 
-ends_bare : (r : List ℕ) → 0 < length r → blank (get_or r (length r - 1) 0) ≡ false → EndsBare r
+pub ends_bare : (r : List ℕ) → 0 < length r → blank (get_or r (length r - 1) 0) ≡ false → EndsBare r
 ends_bare r h f b xs e =
     let split : r ≡ take (length r - 1) r ++ (get_or r (length r - 1) 0 ∷ []) =
     sym (take_all (length r - 1 + 1) r (omega arith)) ∙ take_more r (length r - 1) 0 (omega arith) in
@@ -107,14 +107,34 @@ trimmed_nothing t h = record {
   ends = ends_empty [] (omega arith);
 }
 
+-- the same, where the end is looked for behind the blanks in front
+module _ (t : List ℕ) (first : ℕ) (f : IsFirstBare t first) where
+  pub trimmed_behind : (r : List ℕ) → r ≡ drop first t → (last : ℕ) → last < length r → blank (get_or r last 0) ≡ false
+      → ((k : ℕ) → last < k → k < length r → blank (get_or r k 0) ≡ true) → Trimmed t (take (last + 1) r)
+  trimmed_behind r e last within bare-last back =
+      let long : length r ≡ length t - first = ap length e ∙ length-drop first t in
+      let at : (k : ℕ) → get_or r k 0 ≡ get_or t (first + k) 0 = λ k. ap (λ s. get_or s k 0) e ∙ get_or-drop first t k 0 in
+      let count : first + last + 1 - first ≡ last + 1 = omega arith in
+      let cut : take (first + last + 1 - first) (drop first t) ≡ take (last + 1) r = ap (λ n. take n (drop first t)) count ∙ ap (take (last + 1)) (sym e) in
+      subst (Trimmed t) cut
+      (trimmed_between t first (first + last) (omega arith) (f.bare (omega arith)) (ap blank (sym (at last)) ∙ bare-last) f.blanks
+      (λ k later inside. ap blank (ap (λ i. get_or t i 0) (omega arith) ∙ sym (at (k - first))) ∙ back (k - first) (omega arith) (omega arith)))
+
+  pub nothing_behind : (r : List ℕ) → r ≡ drop first t → ((k : ℕ) → k < length r → blank (get_or r k 0) ≡ true) → Trimmed t []
+  nothing_behind r e h =
+      let long : length r ≡ length t - first = ap length e ∙ length-drop first t in
+      let at : (k : ℕ) → get_or r k 0 ≡ get_or t (first + k) 0 = λ k. ap (λ s. get_or s k 0) e ∙ get_or-drop first t k 0 in
+      trimmed_nothing t (λ k inside. ⊎_elim (λ less. f.blanks k less)
+      (λ least. ap blank (ap (λ i. get_or t i 0) (omega arith) ∙ sym (at (k - first))) ∙ h (k - first) (omega arith)) (cases_lt k first))
+
 -- trimmed at the front and then at the end, by computing
-record TrimmedStart (text r : List ℕ) : Type 0 where
+pub record TrimmedStart (text r : List ℕ) : Type 0 where
   pub before : List ℕ
   pub whole : text ≡ before ++ r
   pub blanks : Blanks before
   pub begins : BeginsBare r
 
-record TrimmedEnd (text r : List ℕ) : Type 0 where
+pub record TrimmedEnd (text r : List ℕ) : Type 0 where
   pub after : List ℕ
   pub whole : text ≡ r ++ after
   pub blanks : Blanks after
