@@ -40,6 +40,8 @@ impl<'a, R: Reel> Reader<'a, R> {
     }
 
     /// The front with no alias resolved by this call.
+    // Inlined, as `peek` is: else a record is copied at each call.
+    #[inline(always)]
     fn front(&self) -> Result<Option<Record>, Refusal>
         ensures { result ≡ peeked (deferred true (reader_meaning R.coming R.ending R.beyond self.now)) }
     {
@@ -61,6 +63,7 @@ impl<'a, R: Reel> Reader<'a, R> {
 impl<'a, R: Reel> Events for Reader<'a, R> {
     ghost meaning = { reader_meaning R.coming R.ending R.beyond };
 
+    #[inline(always)]
     fn peek(&mut self) -> Result<Option<Record>, Refusal> {
         let Some(record) = self.front()? else {
             return Ok(None);
@@ -71,10 +74,20 @@ impl<'a, R: Reel> Events for Reader<'a, R> {
     }
 
     fn next(&mut self) -> Result<Option<Record>, Refusal> {
-        let got = self.peek()?;
-        if let Some(record) = self.reel.take() {
+        if self.deferring || self.resolved {
+            // Nothing is resolved now: the front is looked at once, as it is taken.
+            let Some(record) = self.reel.take() else {
+                return self.front();
+            };
+            let front = shown_as(record, self.resolved);
             self.resolved = false;
             self.last = record.location;
+            return Ok(Some(front));
+        }
+        let got = self.peek()?;
+        if let Some(Record { location, .. }) = self.reel.take() {
+            self.resolved = false;
+            self.last = location;
         }
         Ok(got)
     }
