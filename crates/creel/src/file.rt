@@ -45,7 +45,7 @@ impl<T: Drop> From<AllocFailed<T>> for FileFault {
 fn is_silent(line: &str) -> bool
     ensures { Decides result (Silent line.now) }
 {
-    line.is_empty() || line.starts_with('#')
+    matches!(line.as_bytes(), [] | [b'#', ..])
 }
 
 /// The record that a line says, nothing where the line is empty or begins with `#`, or else why it says none.
@@ -55,7 +55,7 @@ pub fn read_line(line: &str) -> Result<Option<Record>, LineFault>
     if is_silent(line) {
         return Ok(None);
     }
-    read_record(line).map(Some)
+    Ok(Some(read_record(line)?))
 }
 
 /// The records that the lines of a file say, in order.

@@ -50,15 +50,16 @@ fn reads_as_integer(scalar: Scalar) -> bool
 fn is_of(ev: Ev, kind: Kind) -> bool
     ensures { Decides result (Of kind (view_of ev.entry)) }
 {
-    match kind {
-        Kind::Scalar => matches!(ev, Ev::Scalar { .. }),
-        Kind::SeqStart => matches!(ev, Ev::SeqStart { .. }),
-        Kind::SeqEnd => matches!(ev, Ev::SeqEnd { .. }),
-        Kind::MapStart => matches!(ev, Ev::MapStart { .. }),
-        Kind::MapEnd => matches!(ev, Ev::MapEnd { .. }),
-        Kind::RecursiveAlias => matches!(ev, Ev::RecursiveAlias { .. }),
-        Kind::Integer => Scalar::of(ev).is_some_and(reads_as_integer),
-        Kind::Null => Scalar::of(ev).is_some_and(Scalar::is_null),
+    match (ev, kind) {
+        (Ev::Scalar { .. }, Kind::Scalar)
+        | (Ev::SeqStart { .. }, Kind::SeqStart)
+        | (Ev::SeqEnd { .. }, Kind::SeqEnd)
+        | (Ev::MapStart { .. }, Kind::MapStart)
+        | (Ev::MapEnd { .. }, Kind::MapEnd)
+        | (Ev::RecursiveAlias { .. }, Kind::RecursiveAlias) => true,
+        (_, Kind::Integer) => Scalar::of(ev).is_some_and(reads_as_integer),
+        (_, Kind::Null) => Scalar::of(ev).is_some_and(Scalar::is_null),
+        _ => false,
     }
 }
 

@@ -1,10 +1,8 @@
 -- Decimal numerals: which texts `decimal` writes, and that `parse` reads them.
-use Rattle.std.proofs.Common.{◌≡◌, ◌≢◌, ℕ, Bool, true, false, not, ◌^◌, ◌<◌, ◌⊎◌, List, length, get_or, Ok, Err, Result, MatchResult, codes, decimal, sym, ap, ◌∙◌, subst, inl, inr, lit<, arith}
+use Rattle.std.proofs.Common.{◌≡◌, ◌≢◌, ℕ, ◌^◌, ◌<◌, ◌⊎◌, List, length, get_or, Ok, Err, Result, MatchResult, codes, decimal, sym, ap, ◌∙◌, subst, inl, inr, lit<, arith}
 use Rattle.std.proofs.lemmas.Fmt.{decimal_digit, decimal_nonempty, decimal-digits_value, digits_decimal, first_decimal, parse-decimal}
 use Rattle.std.proofs.lemmas.Str.Parse.{IsNumeralModel, numerals_by_value, tells_digits, not_in_digits, parse_plain}
-use Rattle.std.proofs.lemmas.Bool.{cases_lt, not-true, not-false, both_ways}
-use Rattle.std.proofs.lemmas.Slice.Eq.{bytes_eq-Decides}
-use Rattle.std.specs.Str.{bytes_eq}
+use Rattle.std.proofs.lemmas.Bool.{cases_lt}
 use Rattle.std.specs.Result.{IsErrAnd}
 use Rattle.std.specs.Str.Parse.{AllDigits, ParsesUnsigned, digits_value}
 use Rattle.tape_file.specs.Lines.{Small}
@@ -18,7 +16,7 @@ pub no_mark : (n c : ℕ) → n < 2 ^ 32 → c < 48 → (i : ℕ) → i < length
 no_mark n c h k = not_in_digits own (decimal n) c (digits_decimal own n (omega arith)) (λ d. omega arith)
 
 -- a zero in front is the number 0
-zero_alone : (bs : List ℕ) (n : ℕ) → n < 2 ^ 32 → bs ≡ decimal n → get_or bs 0 0 ≡ 48 → bs ≡ codes "0"
+pub zero_alone : (bs : List ℕ) (n : ℕ) → n < 2 ^ 32 → bs ≡ decimal n → get_or bs 0 0 ≡ 48 → bs ≡ codes "0"
 zero_alone bs n h e z =
     let d : get_or (decimal n) 0 0 ≡ 48 = ap (λ (l : List ℕ). get_or l 0 0) (sym e) ∙ z in
     elim (cases_lt 0 n) [
@@ -44,10 +42,3 @@ pub parsed_by_map : {D E : Type 0} (P : D → E → Type 0) (bs : List ℕ) (r :
 parsed_by_map {E = E} P bs (Ok n) q h plus zero m = subst (Means decimal Small bs) (sym m) (parsed {E = E} bs (Ok n) h plus zero)
 parsed_by_map P bs (Err d) (Ok n) h plus zero m = absurd m
 parsed_by_map P bs (Err d) (Err e) h plus zero m = parsed bs (Err d) h plus zero
-
--- what `!=` and `starts_with` answered of the text
-pub not_zero : (bs : List ℕ) (b : Bool) → b ≡ not (bytes_eq bs (codes "0")) → b ≡ true → bs ≢ codes "0"
-not_zero bs b e t z = both_ways (bytes_eq bs (codes "0")) (not-true (bytes_eq bs (codes "0")) (sym e ∙ t)) ((bytes_eq-Decides bs (codes "0")).1 z)
-
-pub is_zero : (bs : List ℕ) (b : Bool) → b ≡ not (bytes_eq bs (codes "0")) → b ≡ false → bs ≡ codes "0"
-is_zero bs b e f = (bytes_eq-Decides bs (codes "0")).0 (not-false (bytes_eq bs (codes "0")) (sym e ∙ f))

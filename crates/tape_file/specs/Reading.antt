@@ -1,16 +1,15 @@
 -- What reading a line, or a part of it, answers.
-use Rattle.std.specs.Prelude.{◌≡◌, ℕ, cond, List, [], ◌∷◌, ◌++◌, Ok, Err, Result, ◌≢◌}
+use Rattle.std.specs.Prelude.{◌≡◌, ℕ, List, [], ◌∷◌, ◌++◌, Some, None, Ok, Err, Option, Result, ◌≢◌}
 use Rattle.std.specs.Borrow.{Bor}
-use Rattle.std.specs.Str.Iter.{split_text, split_has_more}
-use Rattle.std.specs.declared.str.Split.{Split}
 use Rattle.records.specs.declared.record.Record.{Record}
 use Rattle.tape_file.specs.declared.line.Line.{Line}
 use Rattle.tape_file.specs.Spaces.{split}
 use Rattle.tape_file.specs.Lines.{written, SmallRecord}
 
 -- the words that are still to be read
-abbrev pub left : Split ℕ → List (List ℕ)
-left s = cond (split_has_more s) (split (split_text s)) []
+abbrev pub left : Option (Bor (List ℕ)) → List (List ℕ)
+left None = []
+left (Some text) = split text.now
 
 -- the first of the words, where there is one
 abbrev pub Takes : {E : Type 0} → List (List ℕ) → Result (Bor (List ℕ)) E → List (List ℕ) → Type 0

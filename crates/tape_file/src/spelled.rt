@@ -1,7 +1,7 @@
 // What stands in a line as words: one trait for all parts of a record, and one for types with few values.
 ghost use Rattle.std.specs.Prelude.{◌≡◌, ℕ, List, [], ◌∷◌, ⊤};
 ghost use Rattle.tape_file.specs.Reading.{Parses};
-ghost use Rattle.tape_file.specs.Tables.{FindsEach};
+ghost use Rattle.tape_file.specs.Tables.{WordsOf, FindsEach};
 
 use crate::fault::LineFault;
 use crate::words::Words;
@@ -25,9 +25,10 @@ pub(crate) trait Listed: Copy + 'static {
     /// The fault of a word that is no value's.
     const FAULT: LineFault;
 
-    /// Every value.
-    fn all() -> &'static [Self]
-        ensures { FindsEach spelled result.now };
+    /// Every value behind its word, so that looking a word up calls nothing.
+    fn all() -> &'static [(&'static str, Self)]
+        ensures words { WordsOf spelled result.now }
+        ensures each { FindsEach spelled result.now };
 
     fn word(self) -> &'static str
         ensures { result.now ≡ spelled self };
@@ -40,10 +41,9 @@ impl<T: Listed> Spelled for T {
 
     fn parse(words: &mut Words) -> Result<T, LineFault> {
         let word = words.word()?;
-        T::all()
-            .iter()
-            .find(|x| x.word() == word)
-            .copied()
-            .ok_or(T::FAULT)
+        match T::all().iter().find(|(spelled, _)| *spelled == word) {
+            Some((_, x)) => Ok(*x),
+            None => Err(T::FAULT),
+        }
     }
 }

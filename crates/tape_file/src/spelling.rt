@@ -23,7 +23,10 @@ impl Spelled for u32 {
 fn number_of(word: &str) -> Result<u32, LineFault>
     ensures { Means decimal Small word.now result }
 {
-    if word != "0" && (word.starts_with('0') || word.starts_with('+')) {
+    if word == "0" {
+        return Ok(0);
+    }
+    if word.starts_with('0') || word.starts_with('+') {
         return Err(LineFault::NoNumber);
     }
     word.parse().map_err(|_| LineFault::NoNumber)
@@ -34,25 +37,25 @@ impl Listed for SfTag {
 
     const FAULT: LineFault = LineFault::NoTag;
 
-    fn all() -> &'static [SfTag] {
+    fn all() -> &'static [(&'static str, SfTag)] {
         &[
-            SfTag::None,
-            SfTag::Int,
-            SfTag::Float,
-            SfTag::Bool,
-            SfTag::Null,
-            SfTag::Seq,
-            SfTag::Map,
-            SfTag::TimeStamp,
-            SfTag::Binary,
-            SfTag::String,
-            SfTag::Merge,
-            SfTag::Value,
-            SfTag::NonSpecific,
-            SfTag::Include,
-            SfTag::Degrees,
-            SfTag::Radians,
-            SfTag::Other,
+            ("none", SfTag::None),
+            ("int", SfTag::Int),
+            ("float", SfTag::Float),
+            ("bool", SfTag::Bool),
+            ("null", SfTag::Null),
+            ("seq", SfTag::Seq),
+            ("map", SfTag::Map),
+            ("timestamp", SfTag::TimeStamp),
+            ("binary", SfTag::Binary),
+            ("string", SfTag::String),
+            ("merge", SfTag::Merge),
+            ("value", SfTag::Value),
+            ("nonspecific", SfTag::NonSpecific),
+            ("include", SfTag::Include),
+            ("degrees", SfTag::Degrees),
+            ("radians", SfTag::Radians),
+            ("other", SfTag::Other),
         ]
     }
 
@@ -84,13 +87,13 @@ impl Listed for ScalarStyle {
 
     const FAULT: LineFault = LineFault::NoStyle;
 
-    fn all() -> &'static [ScalarStyle] {
+    fn all() -> &'static [(&'static str, ScalarStyle)] {
         &[
-            ScalarStyle::Plain,
-            ScalarStyle::SingleQuoted,
-            ScalarStyle::DoubleQuoted,
-            ScalarStyle::Literal,
-            ScalarStyle::Folded,
+            ("plain", ScalarStyle::Plain),
+            ("single", ScalarStyle::SingleQuoted),
+            ("double", ScalarStyle::DoubleQuoted),
+            ("literal", ScalarStyle::Literal),
+            ("folded", ScalarStyle::Folded),
         ]
     }
 
